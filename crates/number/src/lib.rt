@@ -1,0 +1,180 @@
+// Big-endian numbers of 1, 4 and 8 bytes, read at a place of a message and stored at a place of a buffer, and the signed
+// numbers that their bits are in two's complement.
+ghost use mathlib.Core.Path.{_≡_};
+ghost use mathlib.Core.List.{[], _∷_};
+ghost use Prim.Native.Nat.{_+_, _≤_};
+ghost use lib.ListN.{length, take, drop};
+ghost use Rattle.number.specs.BigEndian.{be, beAfter, bytesOf, numberAt, overwritten};
+ghost use Rattle.number.specs.TwosComplement.{signedOf, bitsOf};
+ghost use Rattle.number.specs.Answers.{foundU8, foundU32, foundU64};
+
+// What reading a number of 1, 4 or 8 bytes finds: the number, or too few bytes for it.
+pub enum ReadU8 {
+    Whole(u8),
+    Truncated,
+}
+
+pub enum ReadU32 {
+    Whole(u32),
+    Truncated,
+}
+
+pub enum ReadU64 {
+    Whole(u64),
+    Truncated,
+}
+
+// The byte at `at`.
+pub fn read_u8(s: &[u8], at: usize) -> ReadU8
+    ensures { λ r. ⌜ foundU8 r ≡ numberAt 1 (now (s .entry)) at ⌝ }
+{
+    if s.len() <= at {
+        return ReadU8::Truncated;
+    }
+    ReadU8::Whole(s[at])
+}
+
+// The number in the 4 bytes from `at`. The subtraction keeps a place near the greatest usize from wrapping.
+pub fn read_u32(s: &[u8], at: usize) -> ReadU32
+    ensures { λ r. ⌜ foundU32 r ≡ numberAt 4 (now (s .entry)) at ⌝ }
+{
+    let len = s.len();
+    if len < 4 {
+        return ReadU32::Truncated;
+    }
+    if len - 4 < at {
+        return ReadU32::Truncated;
+    }
+    ReadU32::Whole(load_u32(s, at))
+}
+
+// The number in the 8 bytes from `at`.
+pub fn read_u64(s: &[u8], at: usize) -> ReadU64
+    ensures { λ r. ⌜ foundU64 r ≡ numberAt 8 (now (s .entry)) at ⌝ }
+{
+    let len = s.len();
+    if len < 8 {
+        return ReadU64::Truncated;
+    }
+    if len - 8 < at {
+        return ReadU64::Truncated;
+    }
+    ReadU64::Whole(load_u64(s, at))
+}
+
+fn load_u32(s: &[u8], at: usize) -> u32
+    requires { ⌜ at + 4 ≤ length (now s) ⌝ }
+    ensures { λ r. ⌜ r ≡ be (take 4 (drop at (now (s .entry)))) ⌝ }
+{
+    join4(s[at], s[at + 1], s[at + 2], s[at + 3])
+}
+
+fn load_u64(s: &[u8], at: usize) -> u64
+    requires { ⌜ at + 8 ≤ length (now s) ⌝ }
+    ensures { λ r. ⌜ r ≡ be (take 8 (drop at (now (s .entry)))) ⌝ }
+{
+    join8(
+        s[at],
+        s[at + 1],
+        s[at + 2],
+        s[at + 3],
+        s[at + 4],
+        s[at + 5],
+        s[at + 6],
+        s[at + 7],
+    )
+}
+
+// The number that 4 bytes are, the most significant first. Compiled, it is one load and a byte swap.
+fn join4(a: u8, b: u8, c: u8, d: u8) -> u32
+    ensures { λ r. ⌜ r ≡ beAfter 0 (a ∷ b ∷ c ∷ d ∷ []) ⌝ }
+{
+    ((a as u32 * 256 + b as u32) * 256 + c as u32) * 256 + d as u32
+}
+
+fn join8(a: u8, b: u8, c: u8, d: u8, e: u8, f: u8, g: u8, h: u8) -> u64
+    ensures { λ r. ⌜ r ≡ beAfter 0 (a ∷ b ∷ c ∷ d ∷ e ∷ f ∷ g ∷ h ∷ []) ⌝ }
+{
+    ((((((a as u64 * 256 + b as u64) * 256 + c as u64) * 256 + d as u64) * 256 + e as u64) * 256
+        + f as u64)
+        * 256
+        + g as u64)
+        * 256
+        + h as u64
+}
+
+// `x` in the byte at `at`. The caller has tested that there is room.
+pub fn store_u8(out: &mut [u8], at: usize, x: u8)
+    requires { ⌜ at + 1 ≤ length (now out) ⌝ }
+    ensures { λ _. ⌜ now (out .exit) ≡ overwritten (now (out .entry)) at (bytesOf 1 x) ⌝ }
+{
+    out[at] = x;
+}
+
+// `x` in the 4 bytes from `at`.
+pub fn store_u32(out: &mut [u8], at: usize, x: u32)
+    requires { ⌜ at + 4 ≤ length (now out) ⌝ }
+    ensures { λ _. ⌜ now (out .exit) ≡ overwritten (now (out .entry)) at (bytesOf 4 x) ⌝ }
+{
+    out[at] = (x / 0x100_0000 % 256) as u8;
+    out[at + 1] = (x / 0x1_0000 % 256) as u8;
+    out[at + 2] = (x / 0x100 % 256) as u8;
+    out[at + 3] = (x / 1 % 256) as u8;
+}
+
+// `x` in the 8 bytes from `at`.
+pub fn store_u64(out: &mut [u8], at: usize, x: u64)
+    requires { ⌜ at + 8 ≤ length (now out) ⌝ }
+    ensures { λ _. ⌜ now (out .exit) ≡ overwritten (now (out .entry)) at (bytesOf 8 x) ⌝ }
+{
+    out[at] = (x / 0x100_0000_0000_0000 % 256) as u8;
+    out[at + 1] = (x / 0x1_0000_0000_0000 % 256) as u8;
+    out[at + 2] = (x / 0x100_0000_0000 % 256) as u8;
+    out[at + 3] = (x / 0x1_0000_0000 % 256) as u8;
+    out[at + 4] = (x / 0x100_0000 % 256) as u8;
+    out[at + 5] = (x / 0x1_0000 % 256) as u8;
+    out[at + 6] = (x / 0x100 % 256) as u8;
+    out[at + 7] = (x / 1 % 256) as u8;
+}
+
+// The signed number that the bits are. The upper half is lowered in two steps, neither of which leaves the type.
+pub fn i8_of_bits(bits: u8) -> i8
+    ensures { λ r. ⌜ r ≡ signedOf 1 bits ⌝ }
+{
+    if bits < 0x80 {
+        bits as i8
+    } else {
+        (bits - 0x80) as i8 + (-0x80)
+    }
+}
+
+pub fn i32_of_bits(bits: u32) -> i32
+    ensures { λ r. ⌜ r ≡ signedOf 4 bits ⌝ }
+{
+    if bits < 0x8000_0000 {
+        bits as i32
+    } else {
+        (bits - 0x8000_0000) as i32 + (-0x8000_0000)
+    }
+}
+
+// The bits of a signed number.
+pub fn bits_of_i8(x: i8) -> u8
+    ensures { λ r. ⌜ r ≡ bitsOf 1 x ⌝ }
+{
+    if x < 0 {
+        (x - (-0x80)) as u8 + 0x80
+    } else {
+        x as u8
+    }
+}
+
+pub fn bits_of_i32(x: i32) -> u32
+    ensures { λ r. ⌜ r ≡ bitsOf 4 x ⌝ }
+{
+    if x < 0 {
+        (x - (-0x8000_0000)) as u32 + 0x8000_0000
+    } else {
+        x as u32
+    }
+}
