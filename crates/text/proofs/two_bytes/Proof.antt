@@ -1,0 +1,35 @@
+-- `text::two_bytes` meets its contract. Assumes nothing.
+use mathlib.Core.Path.{_≡_, sym, _∙_}
+use mathlib.Core.List.{[], _∷_}
+use borrow.Author.Needs.{needs}
+use native.Mathlib.Omega.{arith}
+use Rattle.text.specs.Utf8.{_to_, tail}
+use Rattle.text.proofs.Decisions.{too-few, all-pass, one-fails}
+use Rattle.text.proofs.two_bytes.Statement.{statement}
+use Rattle.text.proofs.two_bytes.Tie as tie
+
+abbrev start : tie.After-within → tie.Start
+start c = c .before .before .before .before
+
+returns : tie.Need-returns
+returns c = let a = c .before .before .args in too-few (a .lo to a .hi) ([]) (a .s .now) (a .at) 2 (omega arith)
+
+returns-2 : tie.Need-returns-2
+returns-2 c =
+    let a = start (c .before) .args in
+    all-pass (a .lo to a .hi) ([]) (a .s .now) (a .at) 2 (omega arith) (sym (c .before .within .ensures) ∙ c .if2 .taken)
+
+returns-3 : tie.Need-returns-3
+returns-3 c =
+    let a = start (c .before) .args in
+    one-fails (a .lo to a .hi) ([]) (a .s .now) (a .at) 2 (omega arith) (sym (c .before .within .ensures) ∙ c .if2 .left)
+
+pub two-bytes-spec : {M : Type 1} → statement M
+two-bytes-spec =
+    tie.close
+    (tie.spec
+    (λ c. search needs)
+    returns
+    (λ c. search needs) (λ c. search needs) (λ c κs. search needs)
+    returns-2
+    returns-3)
