@@ -97,6 +97,35 @@ reply-found m =
     let e : replyNumber m - 0x80 ≡ requestNumber m = omega arith in
     reply-as-request (replyNumber m) (omega arith) ∙ ap ofRequest e ∙ request-found m
 
+-- ---- a test that every method of the table passes
+
+abbrev pub allPass : (Method → Bool) → List Method → Bool
+allPass p [] = true
+allPass p (m ∷ ms) = p m && allPass p ms
+
+and-both : (t u : Bool) → t && u ≡ true → (t ≡ true) × (u ≡ true)
+and-both true u h = (refl, h)
+and-both false u h = let z : _≡_ {A = ℕ} 0 1 = cc in let none : ⊥ = omega arith in absurd none
+
+found-passes : (p : Method → Bool) (f : Method → ℕ) (ms : List Method) (n : ℕ) {m : Method} → allPass p ms ≡ true → lookup f ms n ≡ found m → p m ≡ true
+found-passes p f [] n {m} h e = let z : _≡_ {A = ℕ} 0 1 = cc in let none : ⊥ = omega arith in absurd none
+found-passes p f (k ∷ ks) n {m} h e = go (eqb n (f k)) e (found-passes p f ks n (both .1))
+  where
+    both : (p k ≡ true) × (allPass p ks ≡ true)
+    both = and-both (p k) (allPass p ks) h
+
+    go : (t : Bool) → cond t (found k) (lookup f ks n) ≡ found m → (lookup f ks n ≡ found m → p m ≡ true) → p m ≡ true
+    go true e r = let i : m ≡ k = cc in ap p i ∙ both .0
+    go false e r = r e
+
+pub request-passes : (p : Method → Bool) → allPass p methods ≡ true → (n : ℕ) {m : Method} → ofRequest n ≡ found m → p m ≡ true
+unfolding ofRequest
+request-passes p h n e = found-passes p requestNumber methods n h e
+
+pub reply-passes : (p : Method → Bool) → allPass p methods ≡ true → (n : ℕ) {m : Method} → ofReply n ≡ found m → p m ≡ true
+unfolding ofReply
+reply-passes p h n e = found-passes p replyNumber methods n h e
+
 -- ---- a number that is none of those of a match is unknown
 
 -- x is none of the keys; a match lists them with the last key outermost
@@ -141,10 +170,6 @@ isFound unknown = false
 abbrev allFrom : (ℕ → Bool) → ℕ → ℕ → Bool
 allFrom p a zero = true
 allFrom p a (suc c) = p a && allFrom p (suc a) c
-
-and-both : (t u : Bool) → t && u ≡ true → (t ≡ true) × (u ≡ true)
-and-both true u h = (refl, h)
-and-both false u h = let z : _≡_ {A = ℕ} 0 1 = cc in let none : ⊥ = omega arith in absurd none
 
 abbrev allBelow : ℕ → List ℕ → Bool
 allBelow top [] = true

@@ -1,0 +1,13 @@
+pub mod Agreement
+pub mod Cuts
+pub mod Demand3Holds
+pub mod Fronting
+pub mod Header
+pub mod Iterating
+pub mod Rewritten
+pub mod Sizes
+pub mod Stays
+pub mod Tests
+pub mod Trace
+pub mod WorkedHolds
+pub mod Written

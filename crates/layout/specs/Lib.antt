@@ -1,0 +1,12 @@
+pub mod Demand3
+pub mod Front
+pub mod Kinds
+pub mod Limits
+pub mod Names
+pub mod Normal
+pub mod Pieces
+pub mod Reading
+pub mod Table
+pub mod Values
+pub mod Worked
+pub mod Writing

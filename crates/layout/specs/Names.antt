@@ -1,0 +1,60 @@
+-- The names iterator over a readdir reply (document 01: walker).
+use Prim.Native.Nat.{ℕ, zero, suc}
+use mathlib.Core.List.{List, [], _∷_}
+use lib.ListN.{length}
+use Rattle.layout.specs.Table.{reply}
+use Rattle.layout.specs.Values.{Part, Value, runsOf}
+use Rattle.layout.specs.Reading.{Outcome, got, fail, Answer, refused, accepted, read, bytesAt}
+
+-- names stand right behind a result
+abbrev pub namesAmong : List (Value Part) → List Part
+namesAmong [] = []
+namesAmong (r ∷ []) = []
+namesAmong (r ∷ v ∷ vs) = runsOf v
+
+-- the names of a reply, as its reading has them: none on any other message
+abbrev pub namesOf : Answer → List Part
+namesOf (refused n p) = []
+namesOf (accepted s i t vs k) = namesAmong vs
+
+-- where the next name begins, and how many are left
+pub record Position : Type 0 where
+  pub at : ℕ
+  pub left : ℕ
+
+abbrev pub position : ℕ → ℕ → Position
+position p n = record { at = p; left = n }
+
+-- behind header, result and count
+abbrev pub firstName : ℕ
+firstName = 13
+
+-- the start on any message
+unfoldable pub opened : List ℕ → Position
+opened m = position firstName (length (namesOf (read reply m)))
+
+-- the next name and where to go on; or no name, and the position stays
+pub data Step : Type 0 where
+  name : Part → Position → Step
+  ended : Position → Step
+
+abbrev pub stepped : Position → ℕ → Outcome Part → Step
+stepped w n (got x q) = name x (position q n)
+stepped w n (fail c p) = ended w
+
+abbrev pub stepBy : List ℕ → ℕ → ℕ → Step
+stepBy m p zero = ended (position p zero)
+stepBy m p (suc n) = stepped (position p (suc n)) n (bytesAt m p)
+
+-- a step from any position, also one that was made up. The text of a name was checked when the message was read
+unfoldable pub step : List ℕ → Position → Step
+step m w = stepBy m (w .at) (w .left)
+
+abbrev pub gather : {A : Type 0} → Step → (Part → Position → A) → (Position → A) → A
+gather (name x w) f g = f x w
+gather (ended w) f g = g w
+
+-- the names that n steps give, one after another
+abbrev pub steps : ℕ → List ℕ → Position → List Part
+steps zero m w = []
+steps (suc n) m w = gather (step m w) (λ x v. x ∷ steps n m v) (λ v. steps n m v)
