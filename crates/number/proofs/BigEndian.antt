@@ -104,3 +104,12 @@ number-overwritten w x at l h f =
     let part : take w (drop at (overwritten l at (bytesOf w x))) ≡ bytesOf w x =
     ap (λ (n : ℕ). take n (drop at (overwritten l at (bytesOf w x)))) (sym size) ∙ part-overwritten l at (bytesOf w x) (omega arith) in
     found-whole w (overwritten l at (bytesOf w x)) at (omega arith) (sym (ap be part ∙ be-bytesOf w x f))
+
+-- a number that was found has its bytes
+pub whole-fits : (w : ℕ) (s : List ℕ) (at : ℕ) {x : ℕ} → whole x ≡ numberAt w s at → (at + w ≤ length s) × (x ≡ be (take w (drop at s)))
+unfolding numberAt
+whole-fits w s at {x} e = go (leb (at + w) (length s)) refl e
+  where
+    go : (t : Bool) → leb (at + w) (length s) ≡ t → whole x ≡ cond t (whole (be (take w (drop at s)))) truncated → (at + w ≤ length s) × (x ≡ be (take w (drop at s)))
+    go true h e = (leb-true (at + w) (length s) h, cc)
+    go false h e = let z : _≡_ {A = ℕ} 0 1 = cc in let none : ⊥ = omega arith in absurd none

@@ -1,0 +1,46 @@
+-- What reading at a cursor means.
+use Prim.Native.Nat.{ℕ, _+_}
+use mathlib.Core.Path.{_≡_}
+use mathlib.Core.Bool.{Bool, true, false, cond}
+use mathlib.Core.List.{List, [], _∷_}
+use lib.Dec.{eqb, leb}
+use lib.ListN.{length}
+use Rattle.text.specs.Utf8.{wellFormed}
+use Rattle.layout.specs.Kinds.{Kind}
+use Rattle.layout.specs.Values.{Part, part, Value, bytesIn}
+use Rattle.layout.specs.Reading.{Outcome, got, fail, Reader, anyBytes, fieldAt}
+use Rattle.field.specs.declared.Cursor.{Cursor}
+use Rattle.field.specs.declared.Run.{Run}
+
+-- a reading that gave a and left this cursor: of a refused cursor, the refusal
+abbrev pub outcome : {A : Type 0} → Cursor → A → Outcome A
+outcome c a = cond (eqb (c .code) 0) (got a (c .at)) (fail (c .code) (c .at))
+
+-- a reader at a cursor: of a refused cursor, the refusal
+abbrev pub from : {A : Type 0} → Cursor → Reader A → List ℕ → Outcome A
+from c r m = cond (eqb (c .code) 0) (r m (c .at)) (fail (c .code) (c .at))
+
+-- the reader r at c gave a and left d
+pub record Ended {A : Type 0} (m : List ℕ) (c : Cursor) (r : Reader A) (a : A) (d : Cursor) : Type 0 where
+  pub is : outcome d a ≡ from c r m
+
+-- the field of kind k at c has the value v, and d is behind it
+abbrev pub Took : List ℕ → Cursor → Kind → Value Part → Cursor → Type 0
+Took m c k v d = Ended m c (fieldAt k) v d
+
+-- the fields of these kinds at c have these values, and the last cursor is behind them
+pub data Reads (m : List ℕ) : Cursor → List Kind → List (Value Part) → Cursor → Type 0 where
+  none : {c : Cursor} → Reads m c [] [] c
+  more : {c d e : Cursor} {k : Kind} {ks : List Kind} {v : Value Part} {vs : List (Value Part)} → Took m c k v d → Reads m d ks vs e → Reads m c (k ∷ ks) (v ∷ vs) e
+
+-- the test of a run's bytes
+abbrev pub validBy : Bool → List ℕ → Bool
+validBy true bs = wellFormed bs
+validBy false bs = anyBytes bs
+
+abbrev pub partOf : Run → Part
+partOf r = part (r .start) (r .len)
+
+-- the bytes of a part of m; none where it does not lie inside m
+unfoldable pub shown : List ℕ → Part → List ℕ
+shown m x = cond (leb (x .start + x .size) (length m)) (bytesIn m x) []

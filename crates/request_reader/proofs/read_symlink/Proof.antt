@@ -1,0 +1,16 @@
+-- `request_reader::read_symlink` meets its contract. Assumes nothing.
+use mathlib.Core.Path.{refl}
+use borrow.Author.Needs.{needs}
+use Rattle.method.specs.Methods.{ofRequest}
+use Rattle.layout.specs.Table.{plan}
+use Rattle.field.specs.Cursors.{none, more}
+use Rattle.request_reader.proofs.Answered.{answered}
+use Rattle.request_reader.proofs.read_symlink.Statement.{statement}
+use Rattle.request_reader.proofs.read_symlink.Tie as tie
+
+returns : tie.Need-returns
+unfolding plan ofRequest
+returns c = answered (c .finish .ensures) refl refl (search (more, none))
+
+pub read-symlink-spec : {M : Type 1} → statement M
+read-symlink-spec = tie.close (tie.spec (λ c κs. search needs) (λ c κs. search needs) (λ c κs. search needs) returns)

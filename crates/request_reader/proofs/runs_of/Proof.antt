@@ -1,0 +1,15 @@
+-- `request_reader::runs_of` meets its contract. Assumes nothing.
+use borrow.Author.Needs.{needs}
+use Rattle.request_reader.proofs.runs_of.Statement.{statement}
+use Rattle.request_reader.proofs.runs_of.Tie as tie
+
+pub runs-of-spec : {M : Type 1} → statement M
+runs-of-spec =
+    tie.close
+    (tie.spec
+    (λ c. search needs) (λ c κs. search needs)
+    (λ c. search needs) (λ c κs. search needs)
+    (λ c. search needs) (λ c κs. search needs)
+    (λ c. rw (c .before .before .answer .given .1) (c .runs-of-request .ensures))
+    (λ c. rw (c .before .enum-told .given .1) (c .no-runs .ensures))
+    (λ c. rw (c .before .enum-told2 .given .1) (c .no-runs2 .ensures)))
