@@ -18,7 +18,8 @@ use Rattle.layout.specs.Reading.{Outcome, got, fail, Reader, followed, seq, giv
 use Rattle.field.specs.declared.Cursor.{Cursor}
 use Rattle.field.specs.Cursors.{outcome, from, Ended, Took, Reads, none, more, shown}
 
-push : {A B : Type 0} (t : Bool) (o : Outcome A) (n p : ℕ) (k : A → ℕ → Outcome B) → cond t (followed o k) (fail n p) ≡ followed (cond t o (fail n p)) k
+-- what follows a reading at a cursor
+pub push : {A B : Type 0} (t : Bool) (o : Outcome A) (n p : ℕ) (k : A → ℕ → Outcome B) → cond t (followed o k) (fail n p) ≡ followed (cond t o (fail n p)) k
 push true o n p k = refl
 push false o n p k = refl
 

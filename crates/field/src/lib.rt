@@ -3,10 +3,11 @@
 ghost use mathlib.Core.Path.{_≡_};
 ghost use mathlib.Core.Bool.{true, false};
 ghost use mathlib.Core.List.{[], _∷_};
-ghost use Rattle.layout.specs.Kinds.{u8 as kind·u8, i8 as kind·i8, u32 as kind·u32, i32 as kind·i32, u64 as kind·u64, bool as kind·bool, num, string, bytes};
-ghost use Rattle.layout.specs.Values.{number as natural, signed, truth, run as run·of};
+ghost use Rattle.layout.specs.Kinds.{u8 as kind·u8, i8 as kind·i8, u32 as kind·u32, i32 as kind·i32, u64 as kind·u64, bool as kind·bool, num, string, bytes, strings, kinds, attributes, statistics};
+ghost use Rattle.layout.specs.Values.{number as natural, signed, truth, run as run·of, runs};
 ghost use Rattle.layout.specs.Reading.{numAt, runAt};
 ghost use Rattle.field.specs.Cursors.{Ended, Took, Reads, validBy, partOf, shown};
+ghost use Rattle.field.specs.Values.{attributesValues, statisticsValues, namesFrom};
 use number::ReadU8;
 use number::ReadU32;
 use number::ReadU64;
@@ -26,6 +27,37 @@ pub struct Run {
 pub struct Timestamp {
     pub seconds: u64,
     pub nsec: u32,
+}
+
+pub struct Attributes {
+    pub inode: u64,
+    pub nlink: u64,
+    pub mode: u32,
+    pub uid: u32,
+    pub gid: u32,
+    pub rdev: u64,
+    pub size: u64,
+    pub blocks: u64,
+    pub atime: Timestamp,
+    pub mtime: Timestamp,
+    pub ctime: Timestamp,
+}
+
+pub struct Statistics {
+    pub bsize: u64,
+    pub frsize: u64,
+    pub blocks: u64,
+    pub bfree: u64,
+    pub bavail: u64,
+    pub files: u64,
+    pub ffree: u64,
+    pub namemax: u64,
+}
+
+// The names of a readdir reply: how many, and where the first begins.
+pub struct Names {
+    pub count: u32,
+    pub start: usize,
 }
 
 // A field of each type: its value, and the cursor behind it.
@@ -66,6 +98,21 @@ pub struct RunField {
 
 pub struct TimestampField {
     pub value: Timestamp,
+    pub next: Cursor,
+}
+
+pub struct AttributesField {
+    pub value: Attributes,
+    pub next: Cursor,
+}
+
+pub struct StatisticsField {
+    pub value: Statistics,
+    pub next: Cursor,
+}
+
+pub struct NamesField {
+    pub value: Names,
     pub next: Cursor,
 }
 
@@ -205,6 +252,65 @@ pub fn timestamp_at(m: &[u8], c: Cursor) -> TimestampField
     }
 }
 
+pub fn attributes_at(m: &[u8], c: Cursor) -> AttributesField
+    ensures { λ r. ⌜ Reads (now (m .entry)) c (kinds attributes) (attributesValues (r .value)) (r .next) ⌝ }
+{
+    let inode = u64_at(m, c);
+    let nlink = u64_at(m, inode.next);
+    let mode = u32_at(m, nlink.next);
+    let uid = u32_at(m, mode.next);
+    let gid = u32_at(m, uid.next);
+    let rdev = u64_at(m, gid.next);
+    let size = u64_at(m, rdev.next);
+    let blocks = u64_at(m, size.next);
+    let atime = timestamp_at(m, blocks.next);
+    let mtime = timestamp_at(m, atime.next);
+    let ctime = timestamp_at(m, mtime.next);
+    let atime_value = atime.value;
+    let mtime_value = mtime.value;
+    let ctime_value = ctime.value;
+    let value = Attributes {
+        inode: inode.value,
+        nlink: nlink.value,
+        mode: mode.value,
+        uid: uid.value,
+        gid: gid.value,
+        rdev: rdev.value,
+        size: size.value,
+        blocks: blocks.value,
+        atime: atime_value,
+        mtime: mtime_value,
+        ctime: ctime_value,
+    };
+    let next = ctime.next;
+    AttributesField { value, next }
+}
+
+pub fn statistics_at(m: &[u8], c: Cursor) -> StatisticsField
+    ensures { λ r. ⌜ Reads (now (m .entry)) c (kinds statistics) (statisticsValues (r .value)) (r .next) ⌝ }
+{
+    let bsize = u64_at(m, c);
+    let frsize = u64_at(m, bsize.next);
+    let blocks = u64_at(m, frsize.next);
+    let bfree = u64_at(m, blocks.next);
+    let bavail = u64_at(m, bfree.next);
+    let files = u64_at(m, bavail.next);
+    let ffree = u64_at(m, files.next);
+    let namemax = u64_at(m, ffree.next);
+    let value = Statistics {
+        bsize: bsize.value,
+        frsize: frsize.value,
+        blocks: blocks.value,
+        bfree: bfree.value,
+        bavail: bavail.value,
+        files: files.value,
+        ffree: ffree.value,
+        namemax: namemax.value,
+    };
+    let next = namemax.next;
+    StatisticsField { value, next }
+}
+
 // A run of `len` bytes, well-formed where it is text. The comparison is by subtraction: the place and the length are not added
 // before it is known that the run fits.
 fn run_at(m: &[u8], c: Cursor, len: u32, text: bool) -> RunField
@@ -257,6 +363,45 @@ pub fn bytes_at(m: &[u8], c: Cursor) -> RunField
 {
     let len = word_at(m, c);
     run_at(m, len.next, len.value, false)
+}
+
+// A count, then so many names. The count is not believed: each name is met before the next, and the first that is not there or
+// not well-formed refuses the message.
+pub fn names_at(m: &[u8], c: Cursor) -> NamesField
+    ensures { λ r. ⌜ Took (now (m .entry)) c strings (runs (namesFrom (now (m .entry)) (r .value))) (r .next) ⌝ }
+{
+    let count = word_at(m, c);
+    let first = count.next;
+    let code = first.code;
+    let start = first.at;
+    if code != 0 {
+        return NamesField {
+            value: Names { count: 0, start: 0 },
+            next: first,
+        };
+    }
+    let mut at = start;
+    let mut left = count.value;
+    while 0 < left {
+        let name = string_at(m, Cursor { code: 0, at });
+        let next = name.next;
+        let code = next.code;
+        if code != 0 {
+            return NamesField {
+                value: Names { count: 0, start: 0 },
+                next,
+            };
+        }
+        at = next.at;
+        left -= 1;
+    }
+    NamesField {
+        value: Names {
+            count: count.value,
+            start,
+        },
+        next: Cursor { code: 0, at },
+    }
 }
 
 // The bytes of a run as a part of the message; none where the run does not lie inside it.

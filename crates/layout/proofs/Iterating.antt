@@ -6,7 +6,7 @@ use Prim.Native.Nat.{ℕ, zero, suc, _+_, _≤_, _<_}
 use native.Mathlib.Omega.{arith}
 use lib.Dec.{ltb, eqb}
 use lib.ListN.{length, take}
-use lib.Seq.{take-nil}
+use lib.Seq.{take-nil, take-all}
 use Rattle.text.specs.Utf8.{wellFormed}
 use Rattle.method.specs.declared.Method.{Method}
 use Rattle.method.specs.Methods.{Found, found, unknown as no-method, ofReply}
@@ -16,11 +16,11 @@ use Rattle.layout.specs.Table.{row, unknownResponse, Side, reply, Plan, 
 use Rattle.layout.specs.Limits.{truncatedHeader, truncated, headerSize}
 use Rattle.layout.specs.Pieces.{firstBroken, cutAnswer, Agree}
 use Rattle.layout.specs.Values.{Part, Value, number, signed, truth, run, runs, runsOf, bytesIn, content, contents}
-use Rattle.layout.specs.Reading.{Outcome, got, fail, anyBytes, bytesAt, valueOf, Shape, Answer, refused, accepted, read}
+use Rattle.layout.specs.Reading.{Outcome, got, fail, anyBytes, bytesAt, stringsAt, valueOf, Shape, Answer, refused, accepted, read}
 use Rattle.layout.specs.Names.{namesAmong, namesOf, Position, position, firstName, opened, Step, name, ended, stepped, stepBy, step, gather, steps}
 use Rattle.layout.proofs.Tests.{apart, never}
 use Rattle.layout.proofs.Stays.{body-contents}
-use Rattle.layout.proofs.Trace.{NumHere, RunHere, SizedHere, sized-here, StringsHere, no-string, a-string-more, FieldHere, a-num, a-string, a-bytes, a-strings, FieldsHere, no-field, a-field-more, BodyHere, header-only, an-asked, a-plain, a-failure, a-success, MessageHere, sized-reads, message-traced}
+use Rattle.layout.proofs.Trace.{NumHere, RunHere, SizedHere, sized-here, StringsHere, no-string, a-string-more, FieldHere, a-num, a-string, a-bytes, a-strings, FieldsHere, no-field, a-field-more, BodyHere, header-only, an-asked, a-plain, a-failure, a-success, MessageHere, sized-reads, strings-traced, message-traced}
 
 -- a string read as bytes is the same part
 as-bytes : {m : List ℕ} {p : ℕ} {x : Part} → SizedHere wellFormed m p x → SizedHere anyBytes m p x
@@ -53,6 +53,17 @@ unfolding step
 strings-steps zero h = refl
 strings-steps {m} (suc n) (no-string {p = p}) = stays-ended n m p
 strings-steps (suc n) (a-string-more {x = x} h t) = rw (sized-reads (as-bytes h)) (ap (λ (ys : List Part). x ∷ ys) (strings-steps n t))
+
+strings-count : {m : List ℕ} {n p q : ℕ} {xs : List Part} → StringsHere m n p xs q → length xs ≡ n
+strings-count no-string = refl
+strings-count (a-string-more h t) = ap suc (strings-count t)
+
+-- so the strings that were read are those of the steps
+pub strings-are-steps : (n : ℕ) (m : List ℕ) (p : ℕ) {xs : List Part} {q : ℕ} → stringsAt n m p ≡ got xs q → xs ≡ steps n m (position p n)
+strings-are-steps n m p {xs} e =
+    let h = strings-traced n p e in
+    let size : length xs ≡ n = strings-count h in
+    sym (ap (λ (k : ℕ). steps n m (position p k)) (sym size) ∙ strings-steps n h ∙ take-all n xs (omega arith))
 
 -- ---- the names of a reply stand at 13, by one test over the table
 

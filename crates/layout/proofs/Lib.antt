@@ -4,6 +4,7 @@ pub mod Demand3Holds
 pub mod Fronting
 pub mod Header
 pub mod Iterating
+pub mod PartsNamed
 pub mod Rewritten
 pub mod Sizes
 pub mod Stays

@@ -190,7 +190,7 @@ module _ {m : List ℕ} where
       from : {n r : ℕ} → NumHere 4 m p n → r ≡ p + 4 → RunHere valid m r n → x ≡ part r n → q ≡ r + n → SizedHere valid m p x × (q ≡ p + 4 + x .size)
       from h at r is end = rw (end, is, at) (sized-here h (rw at at r), refl)
 
-  strings-traced : (n p : ℕ) {xs : List Part} {q : ℕ} → stringsAt n m p ≡ got xs q → StringsHere m n p xs q
+  pub strings-traced : (n p : ℕ) {xs : List Part} {q : ℕ} → stringsAt n m p ≡ got xs q → StringsHere m n p xs q
   strings-traced zero p {xs} {q} e =
       let z : _≡_ {A = List Part} xs [] = cc in
       let y : q ≡ p = cc in

@@ -4,6 +4,7 @@ pub mod Kinds
 pub mod Limits
 pub mod Names
 pub mod Normal
+pub mod Parts
 pub mod Pieces
 pub mod Reading
 pub mod Table

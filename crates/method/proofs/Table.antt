@@ -133,7 +133,7 @@ abbrev pub NoneOf : List ℕ → ℕ → Type 0
 NoneOf [] x = Unit {0}
 NoneOf (k ∷ ks) x = NoneOf ks x × (x ≡ k → ⊥)
 
-abbrev has : List ℕ → ℕ → Bool
+abbrev pub has : List ℕ → ℕ → Bool
 has [] k = false
 has (j ∷ js) k = eqb k j || has js k
 
@@ -141,7 +141,7 @@ abbrev hasAll : List ℕ → List ℕ → Bool
 hasAll ks [] = true
 hasAll ks (n ∷ ns) = has ks n && hasAll ks ns
 
-differs : (ks : List ℕ) (k x : ℕ) → NoneOf ks x → has ks k ≡ true → x ≡ k → ⊥
+pub differs : (ks : List ℕ) (k x : ℕ) → NoneOf ks x → has ks k ≡ true → x ≡ k → ⊥
 differs [] k x n h e = let z : _≡_ {A = ℕ} 0 1 = cc in omega arith
 differs (j ∷ js) k x n h e = go (eqb k j) refl h (λ g. differs js k x (n .0) g e)
   where
@@ -167,7 +167,7 @@ abbrev pub isFound : Found → Bool
 isFound (found m) = true
 isFound unknown = false
 
-abbrev allFrom : (ℕ → Bool) → ℕ → ℕ → Bool
+abbrev pub allFrom : (ℕ → Bool) → ℕ → ℕ → Bool
 allFrom p a zero = true
 allFrom p a (suc c) = p a && allFrom p (suc a) c
 
@@ -176,7 +176,7 @@ allBelow top [] = true
 allBelow top (n ∷ ns) = leb n top && allBelow top ns
 
 -- what passes at c numbers one after another passes at each
-at-each : (p : ℕ → Bool) (a c n : ℕ) → allFrom p a c ≡ true → a ≤ n → n < a + c → p n ≡ true
+pub at-each : (p : ℕ → Bool) (a c n : ℕ) → allFrom p a c ≡ true → a ≤ n → n < a + c → p n ≡ true
 at-each p a zero n h l u = let none : ⊥ = omega arith in absurd none
 at-each p a (suc c) n h l u = go (decLt a n) (λ g b. at-each p (suc a) c n b (omega arith) (omega arith))
   where

@@ -1,5 +1,9 @@
 -- `request_reader::runs_of` meets its contract. Assumes nothing.
+use mathlib.Core.Path.{_∙_, sym}
 use borrow.Author.Needs.{needs}
+use Rattle.layout.specs.Table.{request}
+use Rattle.layout.specs.Parts.{fieldsOf}
+use Rattle.request_reader.proofs.Answered.{unknown-nameless}
 use Rattle.request_reader.proofs.runs_of.Statement.{statement}
 use Rattle.request_reader.proofs.runs_of.Tie as tie
 
@@ -11,5 +15,5 @@ runs-of-spec =
     (λ c. search needs) (λ c κs. search needs)
     (λ c. search needs) (λ c κs. search needs)
     (λ c. rw (c .before .before .answer .given .1) (c .runs-of-request .ensures))
-    (λ c. rw (c .before .enum-told .given .1) (c .no-runs .ensures))
+    (λ c. rw (c .before .enum-told .given .1) (c .no-runs .ensures ∙ sym (unknown-nameless (fieldsOf request _))))
     (λ c. rw (c .before .enum-told2 .given .1) (c .no-runs2 .ensures)))

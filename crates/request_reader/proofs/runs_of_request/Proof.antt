@@ -1,12 +1,12 @@
 -- `request_reader::runs_of_request` meets its contract: in each arm the request is of a known variant. Assumes nothing.
 use borrow.Author.Needs.{needs}
 use Rattle.method.specs.Methods.{ofRequest}
-use Rattle.request_reader.specs.Parts.{namedIn}
+use Rattle.layout.specs.Parts.{fieldsOf}
 use Rattle.request_reader.proofs.runs_of_request.Statement.{statement}
 use Rattle.request_reader.proofs.runs_of_request.Tie as tie
 
 pub runs-of-request-spec : {M : Type 1} → statement M
-unfolding namedIn ofRequest
+unfolding fieldsOf ofRequest
 runs-of-request-spec =
     tie.close
     (tie.spec

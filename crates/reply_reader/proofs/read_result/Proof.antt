@@ -1,0 +1,67 @@
+-- `reply_reader::read_result` meets its contract: the result is refused, or ends the reply, or leads on. Assumes nothing.
+use mathlib.Core.Path.{_≡_, refl, sym, ap, _∙_}
+use mathlib.Core.Bool.{true, false}
+use borrow.Author.Needs.{needs}
+use lib.IntN.{ℤ, pos, natAbs}
+use lib.Signed.{ltZ}
+use mir.Syntax.{w32}
+use mir.Val.{SFits}
+use mir.ValLaws.{toZ-ofZ}
+use Rattle.number.proofs.TwosComplement.{kept-casts}
+use Rattle.reply_reader.specs.Answers.{answerAt, successAt}
+use Rattle.reply_reader.proofs.Answered.{zero-or-more, small-result, leads-on, result-refused, result-failure}
+use Rattle.reply_reader.proofs.Types.{Led, led-type}
+use Rattle.reply_reader.proofs.read_result.Statement.{statement}
+use Rattle.reply_reader.proofs.read_result.Tie as tie
+
+-- the result that was read, its fit, and where it leads
+abbrev result : tie.After-i32-at → ℤ
+result s = s .i32-at .result .value
+
+fits : (s : tie.After-i32-at) → SFits w32 (result s)
+fits s = search needs
+
+leads : (s : tie.After-i32-at) → let a = s .before .before .args in
+    successAt (a .m .now) (s .i32-at .result .next) (a .id) (a .kind) (result s) ≡ answerAt (a .m .now) (a .c) (a .id) (a .kind)
+leads s =
+    let b = s .before .before in
+    let l = led-type (b .args .kind) (b .pre .0) (b .pre .1) in
+    leads-on (l .count) (l .kinds) (s .i32-at .ensures) (b .args .id) (b .args .kind) (l .is)
+
+returns : tie.Need-returns
+returns c =
+    let s = c .before .before .before in
+    let a = s .before .before .args in
+    result-refused (a .m .now) (s .i32-at .result .next) (result s) (a .id) (a .kind) (c .if1 .taken) ∙ leads s
+
+returns-2 : tie.Need-returns-2
+returns-2 c =
+    let s = c .before .before .before .before in
+    let b = s .before .before in
+    let l = led-type (b .args .kind) (b .pre .0) (b .pre .1) in
+    let below : ltZ (result s) (pos 0) ≡ true = rw (toZ-ofZ w32 (result s) (fits s)) at (c .if2 .taken) in
+    rw (toZ-ofZ w32 (result s) (fits s))
+    (result-failure (b .args .m .now) (s .i32-at .result .next) (result s) (b .args .id) (b .args .kind) (l .is) (c .before .if1 .left) below ∙ leads s)
+
+not-below : (c : tie.Else2) → ltZ (result (c .before .before .before .before)) (pos 0) ≡ false
+not-below c = let s = c .before .before .before .before in rw (toZ-ofZ w32 (result s) (fits s)) at (c .if2 .left)
+
+cast-read-success : tie.Need-cast-read-success
+cast-read-success c = let s = c .before .before .before .before in kept-casts w32 4 refl (result s) (fits s) (c .if2 .left)
+
+read-success-requires : tie.Need-read-success-requires
+read-success-requires c κs =
+    let s = c .before .before .before .before in
+    let b = s .before .before in
+    (b .pre .0, b .pre .1, rw (toZ-ofZ w32 (result s) (fits s)) (small-result (result s) (fits s) (not-below c)))
+
+returns-3 : tie.Need-returns-3
+returns-3 c =
+    let s = c .before .before .before .before .before in
+    let a = s .before .before .args in
+    let same = ap (λ (z : ℤ). pos (natAbs z)) (toZ-ofZ w32 (result s) (fits s)) ∙ sym (zero-or-more (result s) (not-below (c .before))) in
+    c .read-success .ensures ∙ ap (successAt (a .m .now) (s .i32-at .result .next) (a .id) (a .kind)) same ∙ leads s
+
+pub read-result-spec : {M : Type 1} → statement M
+read-result-spec =
+    tie.close (tie.spec (λ c κs. search needs) returns returns-2 cast-read-success read-success-requires returns-3)

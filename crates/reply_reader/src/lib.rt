@@ -1,0 +1,454 @@
+// The reply reader: the header, the result, then the fields of the method, and one answer.
+ghost use mathlib.Core.Path.{_≡_};
+ghost use mathlib.Core.List.{List};
+ghost use Prim.Native.Nat.{ℕ, _≤_, _<_};
+ghost use lib.IntN.{ℤ, pos};
+ghost use Rattle.method.specs.declared.Method.the-variants.{Getattr, Readlink, Open, Create, Read, Readdir, Statfs, Getcreds};
+ghost use Rattle.method.specs.Methods.{replyNumber};
+ghost use Rattle.layout.specs.Table.{reply as reply·side};
+ghost use Rattle.layout.specs.Reading.{read, behindHeader};
+ghost use Rattle.layout.specs.Parts.{partNamed};
+ghost use Rattle.field.specs.Cursors.{partOf, shown};
+ghost use Rattle.reply_reader.specs.Answers.{answerOf, answerAt, successAt, Finished, Compared};
+ghost use Rattle.reply_reader.specs.Parts.{partsOf, partsNamed, partsOfReply, onlyResolved, onlyData, onlyCreds, noParts};
+use field::Attributes;
+use field::Cursor;
+use field::Names;
+use field::Run;
+use field::Statistics;
+use method::Method;
+
+// A successful reply of each method that has a result. Text and data are runs: parts of the message.
+pub enum Reply {
+    Access,
+    Getattr { attributes: Attributes },
+    Readlink { resolved: Run },
+    Symlink,
+    Link,
+    Rename,
+    Chmod,
+    Chown,
+    Truncate,
+    Fsync,
+    Open { handle: u64 },
+    Mknod,
+    Create { handle: u64 },
+    Release,
+    Unlink,
+    Read { data: Run },
+    Write,
+    Mkdir,
+    Readdir { names: Names },
+    Rmdir,
+    Statfs { statistics: Statistics },
+    Utimens,
+}
+
+// What reading a reply comes to. A negative result is a failure, any other a success; a getcreds reply has no result. `known` is
+// the length of the known part; a refusal has document 01's number, and its place.
+pub enum ReplyAnswer {
+    Success {
+        id: u32,
+        result: i32,
+        reply: Reply,
+        known: usize,
+    },
+    Failure {
+        id: u32,
+        kind: u8,
+        result: i32,
+        known: usize,
+    },
+    Credentials {
+        id: u32,
+        creds: Run,
+        known: usize,
+    },
+    UnknownResponse {
+        id: u32,
+        known: usize,
+    },
+    Refused {
+        number: u8,
+        place: usize,
+    },
+}
+
+// The answer to a message. No message needs a check beforehand.
+pub fn read_reply(m: &[u8]) -> ReplyAnswer
+    ensures { λ r. ⌜ answerOf (now (m .entry)) r ≡ read reply·side (now (m .entry)) ⌝ }
+{
+    let len = m.len();
+    if len < 5 {
+        return ReplyAnswer::Refused {
+            number: 1,
+            place: 0,
+        };
+    }
+    if 65536 < len {
+        return ReplyAnswer::Refused {
+            number: 2,
+            place: 0,
+        };
+    }
+    let start = Cursor { code: 0, at: 0 };
+    let id = field::u32_at(m, start);
+    let kind = field::u8_at(m, id.next);
+    read_body(m, id.value, kind.value)
+}
+
+// The answer to a message of this id and type. The methods with a result are numbered one after another.
+fn read_body(m: &[u8], id: u32, kind: u8) -> ReplyAnswer
+    ensures { λ r. ⌜ answerOf (now (m .entry)) r ≡ behindHeader reply·side id kind (now (m .entry)) ⌝ }
+{
+    let c = Cursor { code: 0, at: 5 };
+    if kind == Method::UNKNOWN_RESPONSE {
+        return ReplyAnswer::UnknownResponse { id, known: 5 };
+    }
+    if kind == Method::GETCREDS_REPLY {
+        return read_getcreds(m, c, id);
+    }
+    if kind < Method::ACCESS_REPLY {
+        return ReplyAnswer::Refused {
+            number: 3,
+            place: 4,
+        };
+    }
+    if Method::UTIMENS_REPLY < kind {
+        return ReplyAnswer::Refused {
+            number: 3,
+            place: 4,
+        };
+    }
+    read_result(m, c, id, kind)
+}
+
+fn read_getcreds(m: &[u8], c: Cursor, id: u32) -> ReplyAnswer
+    ensures { λ r. ⌜ answerOf (now (m .entry)) r ≡ answerAt (now (m .entry)) c id (replyNumber Getcreds) ⌝ }
+{
+    let creds = field::string_at(m, c);
+    let run = creds.value;
+    let next = creds.next;
+    let code = next.code;
+    let at = next.at;
+    if code != 0 {
+        return ReplyAnswer::Refused {
+            number: code,
+            place: at,
+        };
+    }
+    ReplyAnswer::Credentials {
+        id,
+        creds: run,
+        known: at,
+    }
+}
+
+// The result, and where it is not negative the fields.
+fn read_result(m: &[u8], c: Cursor, id: u32, kind: u8) -> ReplyAnswer
+    requires { ⌜ (0x81 ≤ kind) × (kind ≤ 0x96) ⌝ }
+    ensures { λ r. ⌜ answerOf (now (m .entry)) r ≡ answerAt (now (m .entry)) c id kind ⌝ }
+{
+    let result = field::i32_at(m, c);
+    let value = result.value;
+    let next = result.next;
+    let code = next.code;
+    let at = next.at;
+    if code != 0 {
+        return ReplyAnswer::Refused {
+            number: code,
+            place: at,
+        };
+    }
+    if value < 0 {
+        return ReplyAnswer::Failure {
+            id,
+            kind,
+            result: value,
+            known: at,
+        };
+    }
+    read_success(m, next, id, kind, value as u32)
+}
+
+// The fields behind a result that is not negative.
+fn read_success(m: &[u8], c: Cursor, id: u32, kind: u8, result: u32) -> ReplyAnswer
+    requires { ⌜ (0x81 ≤ kind) × (kind ≤ 0x96) × (result < 0x8000_0000) ⌝ }
+    ensures { λ r. ⌜ answerOf (now (m .entry)) r ≡ successAt (now (m .entry)) c id kind (pos result) ⌝ }
+{
+    match kind {
+        Method::ACCESS_REPLY => finish(m, id, result, Reply::Access, c),
+        Method::GETATTR_REPLY => read_getattr(m, c, id, result),
+        Method::READLINK_REPLY => read_readlink(m, c, id, result),
+        Method::SYMLINK_REPLY => finish(m, id, result, Reply::Symlink, c),
+        Method::LINK_REPLY => finish(m, id, result, Reply::Link, c),
+        Method::RENAME_REPLY => finish(m, id, result, Reply::Rename, c),
+        Method::CHMOD_REPLY => finish(m, id, result, Reply::Chmod, c),
+        Method::CHOWN_REPLY => finish(m, id, result, Reply::Chown, c),
+        Method::TRUNCATE_REPLY => finish(m, id, result, Reply::Truncate, c),
+        Method::FSYNC_REPLY => finish(m, id, result, Reply::Fsync, c),
+        Method::OPEN_REPLY => read_open(m, c, id, result),
+        Method::MKNOD_REPLY => finish(m, id, result, Reply::Mknod, c),
+        Method::CREATE_REPLY => read_create(m, c, id, result),
+        Method::RELEASE_REPLY => finish(m, id, result, Reply::Release, c),
+        Method::UNLINK_REPLY => finish(m, id, result, Reply::Unlink, c),
+        Method::READ_REPLY => read_read(m, c, id, result),
+        Method::WRITE_REPLY => finish(m, id, result, Reply::Write, c),
+        Method::MKDIR_REPLY => finish(m, id, result, Reply::Mkdir, c),
+        Method::READDIR_REPLY => read_readdir(m, c, id, result),
+        Method::RMDIR_REPLY => finish(m, id, result, Reply::Rmdir, c),
+        Method::STATFS_REPLY => read_statfs(m, c, id, result),
+        Method::UTIMENS_REPLY => finish(m, id, result, Reply::Utimens, c),
+        _ => ReplyAnswer::Refused {
+            number: 3,
+            place: 4,
+        },
+    }
+}
+
+// The answer by the cursor behind the last field.
+fn finish(m: &[u8], id: u32, result: u32, reply: Reply, c: Cursor) -> ReplyAnswer
+    requires { ⌜ result < 0x8000_0000 ⌝ }
+    ensures { λ r. ⌜ Finished (now (m .entry)) id result reply c (answerOf (now (m .entry)) r) ⌝ }
+{
+    let code = c.code;
+    let at = c.at;
+    if code == 0 {
+        ReplyAnswer::Success {
+            id,
+            result: result as i32,
+            reply,
+            known: at,
+        }
+    } else {
+        ReplyAnswer::Refused {
+            number: code,
+            place: at,
+        }
+    }
+}
+
+fn read_getattr(m: &[u8], c: Cursor, id: u32, result: u32) -> ReplyAnswer
+    requires { ⌜ result < 0x8000_0000 ⌝ }
+    ensures { λ r. ⌜ answerOf (now (m .entry)) r ≡ successAt (now (m .entry)) c id (replyNumber Getattr) (pos result) ⌝ }
+{
+    let attributes = field::attributes_at(m, c);
+    let value = attributes.value;
+    finish(
+        m,
+        id,
+        result,
+        Reply::Getattr { attributes: value },
+        attributes.next,
+    )
+}
+
+fn read_readlink(m: &[u8], c: Cursor, id: u32, result: u32) -> ReplyAnswer
+    requires { ⌜ result < 0x8000_0000 ⌝ }
+    ensures { λ r. ⌜ answerOf (now (m .entry)) r ≡ successAt (now (m .entry)) c id (replyNumber Readlink) (pos result) ⌝ }
+{
+    let resolved = field::string_at(m, c);
+    let value = resolved.value;
+    finish(
+        m,
+        id,
+        result,
+        Reply::Readlink { resolved: value },
+        resolved.next,
+    )
+}
+
+fn read_open(m: &[u8], c: Cursor, id: u32, result: u32) -> ReplyAnswer
+    requires { ⌜ result < 0x8000_0000 ⌝ }
+    ensures { λ r. ⌜ answerOf (now (m .entry)) r ≡ successAt (now (m .entry)) c id (replyNumber Open) (pos result) ⌝ }
+{
+    let handle = field::u64_at(m, c);
+    finish(
+        m,
+        id,
+        result,
+        Reply::Open {
+            handle: handle.value,
+        },
+        handle.next,
+    )
+}
+
+fn read_create(m: &[u8], c: Cursor, id: u32, result: u32) -> ReplyAnswer
+    requires { ⌜ result < 0x8000_0000 ⌝ }
+    ensures { λ r. ⌜ answerOf (now (m .entry)) r ≡ successAt (now (m .entry)) c id (replyNumber Create) (pos result) ⌝ }
+{
+    let handle = field::u64_at(m, c);
+    finish(
+        m,
+        id,
+        result,
+        Reply::Create {
+            handle: handle.value,
+        },
+        handle.next,
+    )
+}
+
+fn read_read(m: &[u8], c: Cursor, id: u32, result: u32) -> ReplyAnswer
+    requires { ⌜ result < 0x8000_0000 ⌝ }
+    ensures { λ r. ⌜ answerOf (now (m .entry)) r ≡ successAt (now (m .entry)) c id (replyNumber Read) (pos result) ⌝ }
+{
+    let data = field::bytes_at(m, c);
+    let run = data.value;
+    let next = compared(data.next, run.len, result);
+    finish(m, id, result, Reply::Read { data: run }, next)
+}
+
+fn read_readdir(m: &[u8], c: Cursor, id: u32, result: u32) -> ReplyAnswer
+    requires { ⌜ result < 0x8000_0000 ⌝ }
+    ensures { λ r. ⌜ answerOf (now (m .entry)) r ≡ successAt (now (m .entry)) c id (replyNumber Readdir) (pos result) ⌝ }
+{
+    let names = field::names_at(m, c);
+    let value = names.value;
+    finish(m, id, result, Reply::Readdir { names: value }, names.next)
+}
+
+fn read_statfs(m: &[u8], c: Cursor, id: u32, result: u32) -> ReplyAnswer
+    requires { ⌜ result < 0x8000_0000 ⌝ }
+    ensures { λ r. ⌜ answerOf (now (m .entry)) r ≡ successAt (now (m .entry)) c id (replyNumber Statfs) (pos result) ⌝ }
+{
+    let statistics = field::statistics_at(m, c);
+    let value = statistics.value;
+    finish(
+        m,
+        id,
+        result,
+        Reply::Statfs { statistics: value },
+        statistics.next,
+    )
+}
+
+// The result of a read reply is compared with the length of its data, once the data is whole.
+fn compared(c: Cursor, len: usize, result: u32) -> Cursor
+    ensures { λ r. ⌜ Compared c len result r ⌝ }
+{
+    let code = c.code;
+    if code != 0 {
+        return c;
+    }
+    if len == result as usize {
+        return c;
+    }
+    Cursor { code: 6, at: 5 }
+}
+
+// The runs of a reply by the names of its fields; a run that it does not have is empty.
+struct Runs {
+    resolved: Run,
+    data: Run,
+    creds: Run,
+}
+
+fn no_runs() -> Runs
+    ensures { λ r. ⌜ partsOf r ≡ noParts ⌝ }
+{
+    let none = Run { start: 0, len: 0 };
+    Runs {
+        resolved: none,
+        data: none,
+        creds: none,
+    }
+}
+
+fn only_resolved(resolved: Run) -> Runs
+    ensures { λ r. ⌜ partsOf r ≡ onlyResolved (partOf resolved) ⌝ }
+{
+    let none = Run { start: 0, len: 0 };
+    Runs {
+        resolved,
+        data: none,
+        creds: none,
+    }
+}
+
+fn only_data(data: Run) -> Runs
+    ensures { λ r. ⌜ partsOf r ≡ onlyData (partOf «data») ⌝ }
+{
+    let none = Run { start: 0, len: 0 };
+    Runs {
+        resolved: none,
+        data,
+        creds: none,
+    }
+}
+
+fn only_creds(creds: Run) -> Runs
+    ensures { λ r. ⌜ partsOf r ≡ onlyCreds (partOf creds) ⌝ }
+{
+    let none = Run { start: 0, len: 0 };
+    Runs {
+        resolved: none,
+        data: none,
+        creds,
+    }
+}
+
+fn runs_of_reply(reply: Reply) -> Runs
+    ensures { λ r. ⌜ ((m : List ℕ) (z : ℤ) → partsOf r ≡ partsOfReply m z reply) ⌝ }
+{
+    match reply {
+        Reply::Readlink { resolved } => only_resolved(resolved),
+        Reply::Read { data } => only_data(data),
+        Reply::Access => no_runs(),
+        Reply::Getattr { .. } => no_runs(),
+        Reply::Symlink => no_runs(),
+        Reply::Link => no_runs(),
+        Reply::Rename => no_runs(),
+        Reply::Chmod => no_runs(),
+        Reply::Chown => no_runs(),
+        Reply::Truncate => no_runs(),
+        Reply::Fsync => no_runs(),
+        Reply::Open { .. } => no_runs(),
+        Reply::Mknod => no_runs(),
+        Reply::Create { .. } => no_runs(),
+        Reply::Release => no_runs(),
+        Reply::Unlink => no_runs(),
+        Reply::Write => no_runs(),
+        Reply::Mkdir => no_runs(),
+        Reply::Readdir { .. } => no_runs(),
+        Reply::Rmdir => no_runs(),
+        Reply::Statfs { .. } => no_runs(),
+        Reply::Utimens => no_runs(),
+    }
+}
+
+fn runs_of(m: &[u8], answer: ReplyAnswer) -> Runs
+    ensures { λ r. ⌜ partsOf r ≡ partsNamed (answerOf (now (m .entry)) answer) ⌝ }
+{
+    match answer {
+        ReplyAnswer::Success { reply, .. } => runs_of_reply(reply),
+        ReplyAnswer::Failure { .. } => no_runs(),
+        ReplyAnswer::Credentials { creds, .. } => only_creds(creds),
+        ReplyAnswer::UnknownResponse { .. } => no_runs(),
+        ReplyAnswer::Refused { .. } => no_runs(),
+    }
+}
+
+// The bytes of the text and of the data, as a part of the message that was answered so. A message without that field, and one that
+// was refused, gives the empty part.
+pub fn resolved<'a>(m: &'a [u8], answer: ReplyAnswer) -> &'a [u8]
+    ensures { λ s. ⌜ now s ≡ shown (now (m .entry)) (partNamed reply·side "resolved" (answerOf (now (m .entry)) answer)) ⌝ }
+{
+    let runs = runs_of(m, answer);
+    field::bytes_of(m, runs.resolved)
+}
+
+pub fn data<'a>(m: &'a [u8], answer: ReplyAnswer) -> &'a [u8]
+    ensures { λ s. ⌜ now s ≡ shown (now (m .entry)) (partNamed reply·side "data" (answerOf (now (m .entry)) answer)) ⌝ }
+{
+    let runs = runs_of(m, answer);
+    field::bytes_of(m, runs.data)
+}
+
+pub fn creds<'a>(m: &'a [u8], answer: ReplyAnswer) -> &'a [u8]
+    ensures { λ s. ⌜ now s ≡ shown (now (m .entry)) (partNamed reply·side "creds" (answerOf (now (m .entry)) answer)) ⌝ }
+{
+    let runs = runs_of(m, answer);
+    field::bytes_of(m, runs.creds)
+}
