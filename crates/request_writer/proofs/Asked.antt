@@ -1,0 +1,126 @@
+-- From the pieces that were stored to the request that was written. Assumes nothing.
+use mathlib.Core.Path.{_≡_, refl, ap, subst, _∙_}
+use mathlib.Core.Bool.{Bool, true, false, _&&_}
+use mathlib.Core.List.{List, [], _∷_, _++_, append-assoc}
+use Prim.Native.Nat.{ℕ, _+_}
+use native.Mathlib.Omega.{arith}
+use lib.ListN.{length, length-append}
+use Rattle.number.specs.BigEndian.{bytesOf}
+use Rattle.number.proofs.BigEndian.{length-bytesOf}
+use Rattle.text.specs.Utf8.{wellFormed}
+use Rattle.method.specs.declared.Method.{Method}
+use Rattle.method.specs.Methods.{found, unknown as no-method, ofRequest}
+use Rattle.layout.specs.Kinds.{Kind, string}
+use Rattle.layout.specs.Table.{request, asked, plan}
+use Rattle.layout.specs.Values.{Value, run}
+use Rattle.layout.specs.Reading.{unknown, known}
+use Rattle.layout.specs.Writing.{sized, encode, encodeAll, encodeMessage, textRight, textsRight, storeChecked, write}
+use Rattle.field.specs.declared.Cursor.{Cursor}
+use Rattle.store.specs.declared.Written.{Written}
+use Rattle.store.specs.declared.Written.the-variants.{Refused}
+use Rattle.request_writer.specs.Asking.{Started, StartedTwo}
+use Rattle.store.specs.Stored.{Puts, concat, admitted, Fields, Ends, Wrote}
+use Rattle.store.proofs.Storing.{puts-then, encodings, concat-encodings, fields-put, wrote}
+
+-- the pieces are the request's, and their size was checked
+asks : (i t : ℕ) (vs : List (Value (List ℕ))) {l n : List ℕ} {f : Cursor} {es : List (List ℕ)} {r : Written} {ks : List Kind} (size : ℕ) (ok : Bool)
+    → Ends f r → plan request t ≡ asked ks → ok ≡ textsRight ks vs → concat es ≡ encodeMessage request known i t vs
+    → size ≡ length (concat es) → Puts l (admitted ok size (length l)) es n f → Wrote (write request known i t vs true l) n r
+unfolding write
+asks i t vs {l} {n} {f} {es} {r} {ks} size ok end p texts same s q =
+    let e = encodeMessage request known i t vs in
+    let q′ : Puts l (admitted (textsRight ks vs) (length e) (length l)) es n f =
+    subst (λ (b : Bool). Puts l (admitted b (length e) (length l)) es n f) texts
+    (subst (λ (k : ℕ). Puts l (admitted ok k (length l)) es n f) (s ∙ ap length same) q) in
+    rw p (wrote end (textsRight ks vs) e same q′)
+
+and-true : (a : Bool) → a ≡ a && true
+and-true true = refl
+and-true false = refl
+
+and-assoc : (a b c : Bool) → c ≡ true → a && b ≡ a && (b && c)
+and-assoc true b c h = and-true b ∙ rw h
+and-assoc false b c h = refl
+
+-- a request that is its header alone
+pub headed : (i t : ℕ) {l n : List ℕ} {f : Cursor} {r : Written} → Ends f r → Puts l (admitted true 5 (length l)) (bytesOf 4 i ∷ bytesOf 1 t ∷ []) n f
+    → Wrote (storeChecked (bytesOf 4 i ++ (bytesOf 1 t ++ [])) l) n r
+headed i t {l} {n} {f} end q =
+    let size : 5 ≡ length (bytesOf 4 i ++ (bytesOf 1 t ++ [])) =
+    omega (arith, length-append (bytesOf 4 i) (bytesOf 1 t ++ []), length-append (bytesOf 1 t) [], length-bytesOf 4 i, length-bytesOf 1 t) in
+    wrote end true (bytesOf 4 i ++ (bytesOf 1 t ++ [])) refl (subst (λ (k : ℕ). Puts l (admitted true k (length l)) (bytesOf 4 i ∷ bytesOf 1 t ∷ []) n f) size q)
+
+-- a request with one text or data, and numbers behind it
+pub run-asks : (vs : List (Value (List ℕ))) {ok : Bool} {l m n s : List ℕ} {d f : Cursor} {i t w : ℕ} {r : Written} {k : Kind} {ks : List Kind}
+    → Started ok l i t s w m d → Ends f r → plan request t ≡ asked (k ∷ ks) → encode k (run s) ≡ sized s → ok ≡ textRight k (run s)
+    → textsRight ks vs ≡ true → length (encodeAll ks vs) ≡ w → Fields m d ks vs n f → Wrote (write request known i t (run s ∷ vs) true l) n r
+unfolding encodeMessage
+run-asks vs {ok} {l} {m} {n} {s} {d} {f} {i} {t} {w} {r} {k} {ks} start end p sizes text texts size q =
+    asks i t (run s ∷ vs) (length s + 0 + (9 + w)) ok end p (text ∙ and-true (textRight k (run s)) ∙ rw texts) bytes long (puts-then (start .is) (fields-put q))
+  where
+    rest : List (List ℕ)
+    rest = encodings ks vs
+
+    bytes : concat (bytesOf 4 i ∷ bytesOf 1 t ∷ bytesOf 4 (length s) ∷ s ∷ rest) ≡ encodeMessage request known i t (run s ∷ vs)
+    bytes = rw (p, sizes, concat-encodings ks vs, append-assoc (bytesOf 4 (length s)) s (encodeAll ks vs))
+
+    long : length s + 0 + (9 + w) ≡ length (concat (bytesOf 4 i ∷ bytesOf 1 t ∷ bytesOf 4 (length s) ∷ s ∷ rest))
+    long =
+        omega (
+          arith,
+          size,
+          ap length (concat-encodings ks vs),
+          length-append (bytesOf 4 i) (concat (bytesOf 1 t ∷ bytesOf 4 (length s) ∷ s ∷ rest)),
+          length-append (bytesOf 1 t) (concat (bytesOf 4 (length s) ∷ s ∷ rest)),
+          length-append (bytesOf 4 (length s)) (s ++ concat rest),
+          length-append s (concat rest),
+          length-bytesOf 4 i,
+          length-bytesOf 1 t,
+          length-bytesOf 4 (length s),
+        )
+
+-- a request with two texts, and numbers behind them
+pub two-asks : (vs : List (Value (List ℕ))) {l m n s u : List ℕ} {d f : Cursor} {i t w : ℕ} {r : Written} {ks : List Kind}
+    → StartedTwo l i t s u w m d → Ends f r → plan request t ≡ asked (string ∷ string ∷ ks) → textsRight ks vs ≡ true
+    → length (encodeAll ks vs) ≡ w → Fields m d ks vs n f → Wrote (write request known i t (run s ∷ run u ∷ vs) true l) n r
+unfolding encodeMessage
+two-asks vs {l} {m} {n} {s} {u} {d} {f} {i} {t} {w} {r} {ks} start end p texts size q =
+    asks i t (run s ∷ run u ∷ vs) (length s + length u + (13 + w)) (wellFormed s && wellFormed u) end p (and-assoc (wellFormed s) (wellFormed u) (textsRight ks vs) texts) bytes long
+    (puts-then (start .is) (fields-put q))
+  where
+    rest : List (List ℕ)
+    rest = encodings ks vs
+
+    second : List (List ℕ)
+    second = bytesOf 4 (length u) ∷ u ∷ rest
+
+    bytes : concat (bytesOf 4 i ∷ bytesOf 1 t ∷ bytesOf 4 (length s) ∷ s ∷ second) ≡ encodeMessage request known i t (run s ∷ run u ∷ vs)
+    bytes = rw (p, concat-encodings ks vs, append-assoc (bytesOf 4 (length s)) s (sized u ++ encodeAll ks vs), append-assoc (bytesOf 4 (length u)) u (encodeAll ks vs))
+
+    long : length s + length u + (13 + w) ≡ length (concat (bytesOf 4 i ∷ bytesOf 1 t ∷ bytesOf 4 (length s) ∷ s ∷ second))
+    long =
+        omega (
+          arith,
+          size,
+          ap length (concat-encodings ks vs),
+          length-append (bytesOf 4 i) (concat (bytesOf 1 t ∷ bytesOf 4 (length s) ∷ s ∷ second)),
+          length-append (bytesOf 1 t) (concat (bytesOf 4 (length s) ∷ s ∷ second)),
+          length-append (bytesOf 4 (length s)) (s ++ concat second),
+          length-append s (concat second),
+          length-append (bytesOf 4 (length u)) (u ++ concat rest),
+          length-append u (concat rest),
+          length-bytesOf 4 i,
+          length-bytesOf 1 t,
+          length-bytesOf 4 (length s),
+          length-bytesOf 4 (length u),
+        )
+
+-- a method's type is no unknown request's
+pub known-type : (i t : ℕ) (l : List ℕ) {m : Method} → ofRequest t ≡ found m → Wrote (write request unknown i t [] true l) l (Refused 3 0)
+unfolding write plan
+known-type i t l e = record { tells = rw e; leaves = rw e }
+
+pub unknown-type : (i t : ℕ) (l : List ℕ) {n : List ℕ} {r : Written} → ofRequest t ≡ no-method → Wrote (storeChecked (bytesOf 4 i ++ (bytesOf 1 t ++ [])) l) n r
+    → Wrote (write request unknown i t [] true l) n r
+unfolding write plan encodeMessage
+unknown-type i t l e w = rw e w

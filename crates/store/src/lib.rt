@@ -1,0 +1,223 @@
+// The fields of a message, stored one after another at a cursor of the lent buffer. A cursor is a place, or a refusal, which
+// stays: a field that is stored at a refused cursor changes no byte. So a message is checked once, before its first byte is
+// stored, and written in straight lines.
+ghost use mathlib.Core.Path.{_≡_};
+ghost use mathlib.Core.Bool.{true};
+ghost use mathlib.Core.List.{[], _∷_};
+ghost use Prim.Native.Nat.{_+_, _≤_};
+ghost use lib.ListN.{length};
+ghost use Rattle.number.specs.BigEndian.{bytesOf, overwritten};
+ghost use Rattle.number.specs.TwosComplement.{bitsOf};
+ghost use Rattle.text.specs.Utf8.{wellFormed};
+ghost use Rattle.layout.specs.Kinds.{u32 as kind·u32, u64 as kind·u64, num};
+ghost use Rattle.layout.specs.Values.{number as natural};
+ghost use Rattle.layout.specs.Writing.{bit};
+ghost use Rattle.store.specs.Stored.{Ends, admitted, Room, Put, Puts, Fields};
+use field::Cursor;
+use field::Timestamp;
+
+// What a writer answers: so many bytes were stored, or document 01's number of refusal, with its place.
+pub enum Written {
+    Stored { len: usize },
+    Refused { number: u8, place: usize },
+}
+
+// The answer of a writer that ends at this cursor.
+pub fn finish(c: Cursor) -> Written
+    ensures { λ r. ⌜ Ends c r ⌝ }
+{
+    let code = c.code;
+    let at = c.at;
+    if code != 0 {
+        return Written::Refused {
+            number: code,
+            place: at,
+        };
+    }
+    Written::Stored { len: at }
+}
+
+// All of `s` is well-formed text.
+pub fn is_text(s: &[u8]) -> bool
+    ensures { λ r. ⌜ r ≡ wellFormed (now (s .entry)) ⌝ }
+{
+    text::well_formed_end(s) == s.len()
+}
+
+// Where a message is stored from: the start of a buffer of `len` bytes, or the refusal of what is checked before its first byte.
+// `first` and `second` are the lengths of its runs, 0 for one that it does not have, and `rest` is the size of all else.
+pub fn admit(texts: bool, first: usize, second: usize, rest: usize, len: usize) -> Cursor
+    ensures { λ r. ⌜ r ≡ admitted texts (first + second + rest) len ⌝ }
+{
+    if texts {
+        return measured(first, second, rest, len);
+    }
+    Cursor { code: 5, at: 0 }
+}
+
+// The tests of each length keep the sum from wrapping.
+fn measured(first: usize, second: usize, rest: usize, len: usize) -> Cursor
+    ensures { λ r. ⌜ r ≡ admitted true (first + second + rest) len ⌝ }
+{
+    if 65536 < first {
+        return Cursor { code: 2, at: 0 };
+    }
+    if 65536 < second {
+        return Cursor { code: 2, at: 0 };
+    }
+    if 65536 < rest {
+        return Cursor { code: 2, at: 0 };
+    }
+    let size = first + second + rest;
+    if 65536 < size {
+        return Cursor { code: 2, at: 0 };
+    }
+    if len < size {
+        return Cursor { code: 7, at: 0 };
+    }
+    Cursor { code: 0, at: 0 }
+}
+
+// The cursor, or refusal 7 where `size` bytes at it do not fit into `len`.
+fn room(c: Cursor, size: usize, len: usize) -> Cursor
+    ensures { λ r. ⌜ Room c size len r ⌝ }
+{
+    let code = c.code;
+    let at = c.at;
+    if code != 0 {
+        return c;
+    }
+    if len < size {
+        return Cursor { code: 7, at: 0 };
+    }
+    if len - size < at {
+        return Cursor { code: 7, at: 0 };
+    }
+    c
+}
+
+// A number of 1, 4 or 8 bytes.
+pub fn put_u8(out: &mut [u8], c: Cursor, x: u8) -> Cursor
+    ensures { λ r. ⌜ Put (now (out .entry)) c (bytesOf 1 x) (now (out .exit)) r ⌝ }
+{
+    let start = room(c, 1, out.len());
+    let code = start.code;
+    let at = start.at;
+    if code != 0 {
+        return start;
+    }
+    number::store_u8(out, at, x);
+    Cursor {
+        code: 0,
+        at: at + 1,
+    }
+}
+
+pub fn put_u32(out: &mut [u8], c: Cursor, x: u32) -> Cursor
+    ensures { λ r. ⌜ Put (now (out .entry)) c (bytesOf 4 x) (now (out .exit)) r ⌝ }
+{
+    let start = room(c, 4, out.len());
+    let code = start.code;
+    let at = start.at;
+    if code != 0 {
+        return start;
+    }
+    number::store_u32(out, at, x);
+    Cursor {
+        code: 0,
+        at: at + 4,
+    }
+}
+
+pub fn put_u64(out: &mut [u8], c: Cursor, x: u64) -> Cursor
+    ensures { λ r. ⌜ Put (now (out .entry)) c (bytesOf 8 x) (now (out .exit)) r ⌝ }
+{
+    let start = room(c, 8, out.len());
+    let code = start.code;
+    let at = start.at;
+    if code != 0 {
+        return start;
+    }
+    number::store_u64(out, at, x);
+    Cursor {
+        code: 0,
+        at: at + 8,
+    }
+}
+
+pub fn put_i8(out: &mut [u8], c: Cursor, x: i8) -> Cursor
+    ensures { λ r. ⌜ Put (now (out .entry)) c (bytesOf 1 (bitsOf 1 x)) (now (out .exit)) r ⌝ }
+{
+    put_u8(out, c, number::bits_of_i8(x))
+}
+
+pub fn put_i32(out: &mut [u8], c: Cursor, x: i32) -> Cursor
+    ensures { λ r. ⌜ Put (now (out .entry)) c (bytesOf 4 (bitsOf 4 x)) (now (out .exit)) r ⌝ }
+{
+    put_u32(out, c, number::bits_of_i32(x))
+}
+
+// True is 1.
+pub fn put_bool(out: &mut [u8], c: Cursor, x: bool) -> Cursor
+    ensures { λ r. ⌜ Put (now (out .entry)) c (bytesOf 1 (bit x)) (now (out .exit)) r ⌝ }
+{
+    if x {
+        put_u8(out, c, 1)
+    } else {
+        put_u8(out, c, 0)
+    }
+}
+
+// All of `s`.
+pub fn put_all(out: &mut [u8], c: Cursor, s: &[u8]) -> Cursor
+    ensures { λ r. ⌜ Put (now (out .entry)) c (now (s .entry)) (now (out .exit)) r ⌝ }
+{
+    let len = s.len();
+    let start = room(c, len, out.len());
+    let code = start.code;
+    let at = start.at;
+    if code != 0 {
+        return start;
+    }
+    copy(out, at, s);
+    Cursor {
+        code: 0,
+        at: at + len,
+    }
+}
+
+fn copy(out: &mut [u8], at: usize, s: &[u8])
+    requires { ⌜ at + length (now s) ≤ length (now out) ⌝ }
+    ensures { λ _. ⌜ now (out .exit) ≡ overwritten (now (out .entry)) at (now (s .entry)) ⌝ }
+{
+    let mut done = 0;
+    while done < s.len() {
+        out[at + done] = s[done];
+        done += 1;
+    }
+}
+
+// A text or data: its length, then all of it (document 01: run). The remainder is the length of every run that is not oversize.
+pub fn put_run(out: &mut [u8], c: Cursor, s: &[u8]) -> Cursor
+    ensures { λ r. ⌜ Puts (now (out .entry)) c (bytesOf 4 (length (now (s .entry))) ∷ now (s .entry) ∷ []) (now (out .exit)) r ⌝ }
+{
+    let len = (s.len() % 0x1_0000_0000) as u32;
+    let first = put_u32(out, c, len);
+    put_all(out, first, s)
+}
+
+// The header of a message: its id and its type.
+pub fn put_header(out: &mut [u8], c: Cursor, id: u32, kind: u8) -> Cursor
+    ensures { λ r. ⌜ Puts (now (out .entry)) c (bytesOf 4 id ∷ bytesOf 1 kind ∷ []) (now (out .exit)) r ⌝ }
+{
+    let first = put_u32(out, c, id);
+    put_u8(out, first, kind)
+}
+
+// A timestamp: its seconds, then its nanoseconds.
+pub fn put_timestamp(out: &mut [u8], c: Cursor, time: Timestamp) -> Cursor
+    ensures { λ r. ⌜ Fields (now (out .entry)) c (num kind·u64 ∷ num kind·u32 ∷ []) (natural (time .seconds) ∷ natural (time .nsec) ∷ []) (now (out .exit)) r ⌝ }
+{
+    let seconds = put_u64(out, c, time.seconds);
+    put_u32(out, seconds, time.nsec)
+}
