@@ -8,7 +8,7 @@ use Rattle.field.specs.declared.Attributes.{Attributes}
 use Rattle.field.specs.declared.Statistics.{Statistics}
 use Rattle.field.specs.declared.Names.{Names}
 
-abbrev pub attributesValues : Attributes → List (Value Part)
+abbrev pub attributesValues : {A : Type 0} → Attributes → List (Value A)
 attributesValues a =
     number (a .inode)
     ∷ number (a .nlink)
@@ -26,7 +26,7 @@ attributesValues a =
     ∷ number (a .ctime .nsec)
     ∷ []
 
-abbrev pub statisticsValues : Statistics → List (Value Part)
+abbrev pub statisticsValues : {A : Type 0} → Statistics → List (Value A)
 statisticsValues s =
     number (s .bsize)
     ∷ number (s .frsize)

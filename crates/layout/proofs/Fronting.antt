@@ -3,6 +3,7 @@ use mathlib.Core.Path.{_≡_, refl, sym, ap, _∙_}
 use mathlib.Core.Bool.{Bool, true, false, cond}
 use mathlib.Core.List.{List, [], _∷_, _++_}
 use Prim.Native.Nat.{ℕ, _+_, _≤_, _<_}
+use native.Mathlib.Decide.{decLt}
 use native.Mathlib.Omega.{arith}
 use lib.Dec.{leb, ltb}
 use lib.ListN.{length, take, drop, length-append}
@@ -10,16 +11,20 @@ use borrow.Author.Tests.{ltb-true, ltb-false, lt-ltb, le-ltb, le-leb}
 use Rattle.number.specs.BigEndian.{be, bytesOf}
 use Rattle.number.specs.TwosComplement.{bitsOf}
 use Rattle.number.proofs.BigEndian.{length-bytesOf}
+use Rattle.method.specs.declared.Method.the-variants.{Getcreds}
 use Rattle.method.specs.Methods.{unknown as no-method, ofRequest}
+use Rattle.method.proofs.Table.{request-zero, request-found, request-above}
 use Rattle.layout.specs.Limits.{truncated, longest}
 use Rattle.layout.specs.Table.{request, Plan, header, plan}
 use Rattle.layout.specs.Values.{Part, Value}
-use Rattle.layout.specs.Reading.{Shape, unknown, known, failure, success, Answer, refused, accepted, read}
+use Rattle.layout.specs.Reading.{Shape, unknown, known, failure, success, Answer, refused, accepted, behindHeader, read}
 use Rattle.layout.specs.Pieces.{pieces, firstBroken, cutAnswer}
 use Rattle.layout.specs.Front.{idOf, typeOf, unknownReply, invalid, invalidReply, Call, hand-on, refuse, reply-with, called, stored, Fronted, done, settle, front}
 use Rattle.layout.specs.Demand3.{cutCall}
 use Rattle.layout.proofs.Agreement.{agree-take}
+use Rattle.layout.proofs.Header.{read-runt, read-oversize, read-header}
 use Rattle.layout.proofs.Stays.{num-stays}
+use Rattle.layout.proofs.Tests.{apart}
 use Rattle.layout.proofs.Cuts.{message-cut}
 use Rattle.layout.proofs.Trace.{NumHere, BodyHere, header-only, MessageHere, message-reads}
 
@@ -93,3 +98,54 @@ front-unknown m out h e l = go (ltb longest (length m)) refl ∙ stored-unknown 
     go true f =
         rw (le-ltb (length m) 5 h, f)
     go false f = front-accepted (here (ltb-false longest (length m) f)) out
+
+-- ---- a request that is refused for its fields
+
+abbrev refusing : Answer → ℕ
+refusing (refused n p) = 1
+refusing (accepted s i t vs k) = 0
+
+-- its header is whole, and its type is one that has fields
+pub record Invalid (m : List ℕ) : Type 0 where
+  pub whole : 5 ≤ length m
+  pub low : 1 ≤ typeOf m
+  pub high : typeOf m ≤ 22
+
+pub invalid-type : (m : List ℕ) {n p : ℕ} → read request m ≡ refused n p → (n ≡ 1 → ⊥) → (n ≡ 2 → ⊥) → Invalid m
+unfolding plan
+invalid-type m {n} {p} e a b = record { whole = whole; low = low (decLt (typeOf m) 1); high = high (decLt 22 (typeOf m)) }
+  where
+    same : {x y : ℕ} → read request m ≡ refused x y → n ≡ x
+    same {x} {y} f = let r : refused n p ≡ refused x y = sym e ∙ f in cc
+
+    whole : 5 ≤ length m
+    whole = go (decLt (length m) 5)
+      where
+        go : Dec (length m < 5) → 5 ≤ length m
+        go (yes l) = absurd (a (same (read-runt request m l)))
+        go (no l) = omega arith
+
+    short : length m ≤ 65536
+    short = go (decLt 65536 (length m))
+      where
+        go : Dec (65536 < length m) → length m ≤ 65536
+        go (yes l) = absurd (b (same (read-oversize request m l)))
+        go (no l) = omega arith
+
+    leads : refused n p ≡ behindHeader request (idOf m) (typeOf m) m
+    leads = sym e ∙ read-header request m whole short
+
+    accepts : {s : Shape} → behindHeader request (idOf m) (typeOf m) m ≡ accepted s (idOf m) (typeOf m) [] 5 → ⊥
+    accepts f = apart (sym (ap refusing (leads ∙ f)))
+
+    low : Dec (typeOf m < 1) → 1 ≤ typeOf m
+    low (yes l) = let z : typeOf m ≡ 0 = omega arith in absurd (accepts {s = unknown} (rw (ap ofRequest z ∙ request-zero)))
+    low (no l) = omega arith
+
+    high : Dec (22 < typeOf m) → typeOf m ≤ 22
+    high (yes l) = go (decLt 23 (typeOf m))
+      where
+        go : Dec (23 < typeOf m) → typeOf m ≤ 22
+        go (yes g) = absurd (accepts {s = unknown} (rw (request-above (typeOf m) g)))
+        go (no g) = let z : typeOf m ≡ 23 = omega arith in absurd (accepts {s = known} (rw (ap ofRequest z ∙ request-found Getcreds)))
+    high (no l) = omega arith

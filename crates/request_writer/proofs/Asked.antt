@@ -42,14 +42,6 @@ and-assoc : (a b c : Bool) → c ≡ true → a && b ≡ a && (b && c)
 and-assoc true b c h = and-true b ∙ rw h
 and-assoc false b c h = refl
 
--- a request that is its header alone
-pub headed : (i t : ℕ) {l n : List ℕ} {f : Cursor} {r : Written} → Ends f r → Puts l (admitted true 5 (length l)) (bytesOf 4 i ∷ bytesOf 1 t ∷ []) n f
-    → Wrote (storeChecked (bytesOf 4 i ++ (bytesOf 1 t ++ [])) l) n r
-headed i t {l} {n} {f} end q =
-    let size : 5 ≡ length (bytesOf 4 i ++ (bytesOf 1 t ++ [])) =
-    omega (arith, length-append (bytesOf 4 i) (bytesOf 1 t ++ []), length-append (bytesOf 1 t) [], length-bytesOf 4 i, length-bytesOf 1 t) in
-    wrote end true (bytesOf 4 i ++ (bytesOf 1 t ++ [])) refl (subst (λ (k : ℕ). Puts l (admitted true k (length l)) (bytesOf 4 i ∷ bytesOf 1 t ∷ []) n f) size q)
-
 -- a request with one text or data, and numbers behind it
 pub run-asks : (vs : List (Value (List ℕ))) {ok : Bool} {l m n s : List ℕ} {d f : Cursor} {i t w : ℕ} {r : Written} {k : Kind} {ks : List Kind}
     → Started ok l i t s w m d → Ends f r → plan request t ≡ asked (k ∷ ks) → encode k (run s) ≡ sized s → ok ≡ textRight k (run s)

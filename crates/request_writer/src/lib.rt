@@ -2,15 +2,14 @@
 // All checks stand before the first store, so a refused writer changes no byte.
 ghost use mathlib.Core.Path.{_≡_};
 ghost use mathlib.Core.Bool.{true, _&&_};
-ghost use mathlib.Core.List.{[], _∷_, _++_};
+ghost use mathlib.Core.List.{[], _∷_};
 ghost use Prim.Native.Nat.{_≤_};
-ghost use Rattle.number.specs.BigEndian.{bytesOf};
 ghost use Rattle.text.specs.Utf8.{wellFormed};
 ghost use Rattle.method.specs.declared.Method.the-variants as methods;
 ghost use Rattle.layout.specs.Values.{number, signed, truth, run};
 ghost use Rattle.layout.specs.Table.{request};
 ghost use Rattle.layout.specs.Reading.{unknown};
-ghost use Rattle.layout.specs.Writing.{storeChecked, write};
+ghost use Rattle.layout.specs.Writing.{write};
 ghost use Rattle.store.specs.Stored.{Wrote};
 ghost use Rattle.request_writer.specs.Asking.{asking, Started, StartedTwo};
 use field::Cursor;
@@ -262,7 +261,7 @@ pub fn write_utimens(
 pub fn write_getcreds(id: u32, out: &mut [u8]) -> Written
     ensures { λ r. ⌜ Wrote (asking methods.Getcreds id [] (now (out .entry))) (now (out .exit)) r ⌝ }
 {
-    write_header(id, Method::GETCREDS, out)
+    store::write_header(id, Method::GETCREDS, out)
 }
 
 // A request of a type that is no method's. A method's type is refused.
@@ -275,15 +274,6 @@ pub fn write_unknown(id: u32, kind: u8, out: &mut [u8]) -> Written
             number: 3,
             place: 0,
         },
-        Lookup::Unknown => write_header(id, kind, out),
+        Lookup::Unknown => store::write_header(id, kind, out),
     }
-}
-
-// A request that is its header alone.
-fn write_header(id: u32, kind: u8, out: &mut [u8]) -> Written
-    ensures { λ r. ⌜ Wrote (storeChecked (bytesOf 4 id ++ (bytesOf 1 kind ++ [])) (now (out .entry))) (now (out .exit)) r ⌝ }
-{
-    let place = store::admit(true, 0, 0, 5, out.len());
-    let header = store::put_header(out, place, id, kind);
-    store::finish(header)
 }

@@ -1,5 +1,5 @@
 -- Laws of storing at a cursor. Assumes nothing.
-use mathlib.Core.Path.{_≡_, refl, sym, ap, _∙_}
+use mathlib.Core.Path.{_≡_, refl, sym, ap, subst, _∙_}
 use mathlib.Core.Bool.{Bool, true, false, cond}
 use mathlib.Core.List.{List, [], _∷_, _++_, append-assoc}
 use Prim.Native.Nat.{ℕ, _+_, _%_, _^_, _≤_, _<_}
@@ -15,7 +15,7 @@ use Rattle.layout.specs.Kinds.{Kind}
 use Rattle.layout.specs.Values.{Value}
 use Rattle.layout.specs.Limits.{oversize, malformedText, bufferTooSmall, longest}
 use Rattle.field.specs.declared.Cursor.{Cursor}
-use Rattle.layout.specs.Writing.{encode, encodeAll, check, refuse, store, storeChecked}
+use Rattle.layout.specs.Writing.{encode, encodeAll, Written as Outcome, check, refuse, store, storeChecked}
 use Rattle.store.specs.Stored.{Stored, left, place, refusal, roomAt, Room, storeAt, Put, Puts, none, more, concat, admitted, Fields, done, field, Ends, Wrote}
 use Rattle.store.specs.declared.Written.{Written}
 
@@ -157,16 +157,28 @@ module _ {l n : List ℕ} {f : Cursor} {es : List (List ℕ)} {r : Written} (end
       let at : f .at ≡ length e = s .2 ∙ rw (same, zero-plus) in
       record { tells = end .is ∙ rw (eq-eqb (f .code) 0 (s .1), at); leaves = s .0 ∙ rw (same, zero-plus) }
 
+  -- where the test fails, the refusal; else what follows
+  pub tested : (k : ℕ) → 0 < k → (ok : Bool) (c : Cursor) (w : Outcome) → (Puts l c es n f → Wrote w n r) → Puts l (cond ok c (refusal k)) es n f → Wrote (check k ok l w) n r
+  tested k h true c w then q = then q
+  tested k h false c w then q = refusing k h q
+
   -- the pieces of a message that was checked are stored as the layout's writer stores it
   pub wrote : (ok : Bool) (e : List ℕ) → concat es ≡ e → Puts l (admitted ok (length e) (length l)) es n f
       → Wrote (check malformedText ok l (storeChecked e l)) n r
   unfolding admitted storeChecked
-  wrote ok e same q = go ok (leb (length e) longest) (leb (length e) (length l)) refl q
+  wrote ok e same =
+      tested malformedText (omega arith) ok _ _
+      (tested oversize (omega arith) (leb (length e) longest) _ _ (go (leb (length e) (length l)) refl))
     where
-      go : (a b c : Bool) → leb (length e) (length l) ≡ c
-          → Puts l (cond a (cond b (cond c (place 0) (refusal bufferTooSmall)) (refusal oversize)) (refusal malformedText)) es n f
-          → Wrote (cond a (cond b (cond c (store e l) (refuse bufferTooSmall l)) (refuse oversize l)) (refuse malformedText l)) n r
-      go false b c h q = refusing malformedText (omega arith) q
-      go true false c h q = refusing oversize (omega arith) q
-      go true true false h q = refusing bufferTooSmall (omega arith) q
-      go true true true h q = storing e same (leb-true (length e) (length l) h) q
+      go : (b : Bool) → leb (length e) (length l) ≡ b → Puts l (cond b (place 0) (refusal bufferTooSmall)) es n f
+          → Wrote (check bufferTooSmall b l (store e l)) n r
+      go false h q = refusing bufferTooSmall (omega arith) q
+      go true h q = storing e same (leb-true (length e) (length l) h) q
+
+-- a message that is its header alone
+pub headed : (i t : ℕ) {l n : List ℕ} {f : Cursor} {r : Written} → Ends f r → Puts l (admitted true 5 (length l)) (bytesOf 4 i ∷ bytesOf 1 t ∷ []) n f
+    → Wrote (storeChecked (bytesOf 4 i ++ (bytesOf 1 t ++ [])) l) n r
+headed i t {l} {n} {f} end q =
+    let size : 5 ≡ length (bytesOf 4 i ++ (bytesOf 1 t ++ [])) =
+    omega (arith, length-append (bytesOf 4 i) (bytesOf 1 t ++ []), length-append (bytesOf 1 t) [], length-bytesOf 4 i, length-bytesOf 1 t) in
+    wrote end true (bytesOf 4 i ++ (bytesOf 1 t ++ [])) refl (subst (λ (k : ℕ). Puts l (admitted true k (length l)) (bytesOf 4 i ∷ bytesOf 1 t ∷ []) n f) size q)

@@ -3,7 +3,7 @@
 // stored, and written in straight lines.
 ghost use mathlib.Core.Path.{_≡_};
 ghost use mathlib.Core.Bool.{true};
-ghost use mathlib.Core.List.{[], _∷_};
+ghost use mathlib.Core.List.{[], _∷_, _++_};
 ghost use Prim.Native.Nat.{_+_, _≤_};
 ghost use lib.ListN.{length};
 ghost use Rattle.number.specs.BigEndian.{bytesOf, overwritten};
@@ -11,8 +11,8 @@ ghost use Rattle.number.specs.TwosComplement.{bitsOf};
 ghost use Rattle.text.specs.Utf8.{wellFormed};
 ghost use Rattle.layout.specs.Kinds.{u32 as kind·u32, u64 as kind·u64, num};
 ghost use Rattle.layout.specs.Values.{number as natural};
-ghost use Rattle.layout.specs.Writing.{bit};
-ghost use Rattle.store.specs.Stored.{Ends, admitted, Room, Put, Puts, Fields};
+ghost use Rattle.layout.specs.Writing.{bit, storeChecked};
+ghost use Rattle.store.specs.Stored.{Ends, admitted, Room, Put, Puts, Fields, Wrote};
 use field::Cursor;
 use field::Timestamp;
 
@@ -220,4 +220,13 @@ pub fn put_timestamp(out: &mut [u8], c: Cursor, time: Timestamp) -> Cursor
 {
     let seconds = put_u64(out, c, time.seconds);
     put_u32(out, seconds, time.nsec)
+}
+
+// A message that is its header alone.
+pub fn write_header(id: u32, kind: u8, out: &mut [u8]) -> Written
+    ensures { λ r. ⌜ Wrote (storeChecked (bytesOf 4 id ++ (bytesOf 1 kind ++ [])) (now (out .entry))) (now (out .exit)) r ⌝ }
+{
+    let place = admit(true, 0, 0, 5, out.len());
+    let header = put_header(out, place, id, kind);
+    finish(header)
 }

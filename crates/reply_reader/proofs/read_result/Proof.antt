@@ -8,9 +8,9 @@ use mir.Syntax.{w32}
 use mir.Val.{SFits}
 use mir.ValLaws.{toZ-ofZ}
 use Rattle.number.proofs.TwosComplement.{kept-casts}
+use Rattle.layout.proofs.ReplyTypes.{Led, led-type}
 use Rattle.reply_reader.specs.Answers.{answerAt, successAt}
 use Rattle.reply_reader.proofs.Answered.{zero-or-more, small-result, leads-on, result-refused, result-failure}
-use Rattle.reply_reader.proofs.Types.{Led, led-type}
 use Rattle.reply_reader.proofs.read_result.Statement.{statement}
 use Rattle.reply_reader.proofs.read_result.Tie as tie
 

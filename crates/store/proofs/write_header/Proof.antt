@@ -1,8 +1,8 @@
--- `request_writer::write_header` meets its contract. Assumes nothing.
+-- `store::write_header` meets its contract. Assumes nothing.
 use borrow.Author.Needs.{needs}
-use Rattle.request_writer.proofs.Asked.{headed}
-use Rattle.request_writer.proofs.write_header.Statement.{statement}
-use Rattle.request_writer.proofs.write_header.Tie as tie
+use Rattle.store.proofs.Storing.{headed}
+use Rattle.store.proofs.write_header.Statement.{statement}
+use Rattle.store.proofs.write_header.Tie as tie
 
 returns : tie.Need-returns
 returns c = headed _ _ (c .finish .ensures) (rw (← (c .before .before .before .before .before .admit .ensures)) (c .before .before .before .put-header .ensures))

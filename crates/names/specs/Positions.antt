@@ -1,0 +1,20 @@
+-- What positions and steps stand for.
+use Rattle.layout.specs.Values.{Part}
+use Rattle.layout.specs.Parts.{nothing}
+use Rattle.layout.specs.Names as layout
+use Rattle.field.specs.Cursors.{partOf}
+use Rattle.names.specs.declared.Position.{Position}
+use Rattle.names.specs.declared.Step.{Step}
+use Rattle.names.specs.declared.Step.the-variants as S
+
+abbrev pub positionOf : Position → layout.Position
+positionOf w = layout.position (w .at) (w .left)
+
+abbrev pub stepOf : Step → layout.Step
+stepOf (S.Name x w) = layout.name (partOf x) (positionOf w)
+stepOf (S.End w) = layout.ended (positionOf w)
+
+-- the name that a step gave; the empty part where it gave none
+abbrev pub nameOf : layout.Step → Part
+nameOf (layout.name x w) = x
+nameOf (layout.ended w) = nothing

@@ -1,0 +1,184 @@
+-- From the pieces that were stored to the reply that was written. Assumes nothing.
+use mathlib.Core.Path.{_≡_, refl, sym, ap, subst, _∙_}
+use mathlib.Core.Bool.{Bool, true, false, not, cond, _&&_}
+use mathlib.Core.List.{List, [], _∷_, _++_, append-assoc}
+use Prim.Native.Nat.{ℕ, suc, _+_, _≤_, _<_}
+use native.Mathlib.Omega.{arith}
+use lib.Dec.{eqb}
+use lib.IntN.{ℤ, pos, negsuc, natAbs}
+use lib.Signed.{ltZ}
+use lib.ListN.{length, length-append}
+use borrow.Author.Tests.{lt-leb}
+use Rattle.number.specs.BigEndian.{bytesOf}
+use Rattle.number.specs.TwosComplement.{bitsOf}
+use Rattle.number.proofs.BigEndian.{length-bytesOf}
+use Rattle.text.specs.Utf8.{wellFormed}
+use Rattle.layout.specs.Kinds.{Kind, string}
+use Rattle.layout.specs.Limits.{malformedText, dataLengthMismatch, resultSign}
+use Rattle.layout.specs.Table.{reply, plain, led, plan}
+use Rattle.layout.specs.Values.{Value, signed, run}
+use Rattle.layout.specs.Reading.{failure, success}
+use Rattle.layout.specs.Writing.{sized, encode, encodeAll, encodeMessage, hasShape, negative, textRight, textsRight, counts, countRight, write}
+use Rattle.layout.proofs.Tests.{never}
+use Rattle.field.specs.declared.Cursor.{Cursor}
+use Rattle.store.specs.declared.Written.{Written}
+use Rattle.store.specs.declared.Written.the-variants.{Refused}
+use Rattle.store.specs.Stored.{refusal, Puts, concat, admitted, Fields, Ends, Wrote}
+use Rattle.store.proofs.Storing.{puts-then, encodings, concat-encodings, fields-put, tested, wrote}
+use Rattle.reply_writer.specs.Replying.{allowed, Started}
+
+-- ---- the sign of a result
+
+pub negative-below : (z : ℤ) (vs : List (Value (List ℕ))) → negative (signed z ∷ vs) ≡ ltZ z (pos 0)
+negative-below (pos n) vs = sym (lt-leb (suc n) 0 (omega arith))
+negative-below (negsuc n) vs = refl
+
+-- a negative result counts nothing, any other what it says
+pub below-counts : (z : ℤ) (s : List ℕ) → ltZ z (pos 0) ≡ true → false ≡ counts (signed z ∷ run s ∷ [])
+below-counts (pos n) s h = never (sym (lt-leb (suc n) 0 (omega arith)) ∙ h)
+below-counts (negsuc n) s h = refl
+
+pub other-counts : (z : ℤ) (s : List ℕ) → ltZ z (pos 0) ≡ false → eqb (natAbs z) (length s) ≡ counts (signed z ∷ run s ∷ [])
+other-counts (pos n) s h = refl
+other-counts (negsuc n) s h = never (sym h)
+
+-- ---- what is checked before the first byte
+
+module _ (z : ℤ) (size n : ℕ) where
+  pub admit-below : (texts counted : Bool) → ltZ z (pos 0) ≡ true → refusal resultSign ≡ allowed z texts counted size n
+  unfolding allowed
+  admit-below texts counted h = rw h
+
+  pub admit-other : (texts counted : Bool) → ltZ z (pos 0) ≡ false
+      → cond texts (cond counted (admitted true size n) (refusal dataLengthMismatch)) (refusal malformedText) ≡ allowed z texts counted size n
+  unfolding allowed
+  admit-other texts counted h = rw h
+
+-- ---- a success
+
+-- header and result, and what follows them
+abbrev led·bytes : ℕ → ℕ → ℤ → List ℕ → List ℕ
+led·bytes i t z rest = bytesOf 4 i ++ (bytesOf 1 t ++ (bytesOf 4 (bitsOf 4 z) ++ rest))
+
+led-size : (i t : ℕ) (z : ℤ) (rest : List ℕ) → length (led·bytes i t z rest) ≡ 9 + length rest
+led-size i t z rest =
+    omega (
+      arith,
+      length-append (bytesOf 4 i) (bytesOf 1 t ++ (bytesOf 4 (bitsOf 4 z) ++ rest)),
+      length-append (bytesOf 1 t) (bytesOf 4 (bitsOf 4 z) ++ rest),
+      length-append (bytesOf 4 (bitsOf 4 z)) rest,
+      length-bytesOf 4 i,
+      length-bytesOf 1 t,
+      length-bytesOf 4 (bitsOf 4 z),
+    )
+
+-- the pieces are the reply's, and their size was checked
+succeeds : (i t : ℕ) (z : ℤ) (vs : List (Value (List ℕ))) {l m n : List ℕ} {d f : Cursor} {es : List (List ℕ)} {r : Written} {count : Bool} {ks : List Kind} {size : ℕ} {texts counted : Bool}
+    → Started texts counted size l i t z m d → Ends f r → plan reply t ≡ led count ks → texts ≡ textsRight ks vs → counted ≡ countRight (led count ks) success (signed z ∷ vs)
+    → concat es ≡ encodeAll ks vs → size ≡ 9 + length (encodeAll ks vs) → Puts m d es n f → Wrote (write reply success i t (signed z ∷ vs) true l) n r
+unfolding write allowed encodeMessage
+succeeds i t z vs {l} {m} {n} {d} {f} {es} {r} {count} {ks} {size} {texts} {counted} start end p text tally same s q =
+    rw (p, negative-below z vs, ← text, ← tally)
+    (tested {es = all} end resultSign (omega arith) (not (ltZ z (pos 0))) _ _
+    (tested {es = all} end malformedText (omega arith) texts _ _
+    (tested {es = all} end dataLengthMismatch (omega arith) counted _ _
+    (wrote {es = all} end true e bytes))) stored)
+  where
+    e : List ℕ
+    e = led·bytes i t z (encodeAll ks vs)
+
+    all : List (List ℕ)
+    all = bytesOf 4 i ∷ bytesOf 1 t ∷ bytesOf 4 (bitsOf 4 z) ∷ es
+
+    bytes : concat all ≡ e
+    bytes = rw same
+
+    stored : Puts l (allowed z texts counted (length e) (length l)) all n f
+    stored = subst (λ (k : ℕ). Puts l (allowed z texts counted k (length l)) all n f) (s ∙ sym (led-size i t z (encodeAll ks vs))) (puts-then (start .is) q)
+
+-- a success of numbers behind the result
+pub numbers-reply : (vs : List (Value (List ℕ))) {l m n : List ℕ} {d f : Cursor} {i t w : ℕ} {z : ℤ} {r : Written} {ks : List Kind}
+    → Started true true (9 + w) l i t z m d → Ends f r → plan reply t ≡ led false ks → true ≡ textsRight ks vs → w ≡ length (encodeAll ks vs)
+    → Fields m d ks vs n f → Wrote (write reply success i t (signed z ∷ vs) true l) n r
+numbers-reply vs {i = i} {t = t} {z = z} {ks = ks} start end p texts size q =
+    succeeds i t z vs start end p texts refl (concat-encodings ks vs) (ap (λ (k : ℕ). 9 + k) size) (fields-put q)
+
+and-true : (a : Bool) → a ≡ a && true
+and-true true = refl
+and-true false = refl
+
+-- a success of one text or data behind the result
+pub run-reply : {l m n s : List ℕ} {d f : Cursor} {i t : ℕ} {z : ℤ} {r : Written} {count texts counted : Bool} {k : Kind}
+    → Started texts counted (length s + 0 + (9 + 4)) l i t z m d → Ends f r → plan reply t ≡ led count (k ∷ []) → encode k (run s) ≡ sized s → texts ≡ textRight k (run s)
+    → counted ≡ countRight (led count (k ∷ [])) success (signed z ∷ run s ∷ []) → Puts m d (bytesOf 4 (length s) ∷ s ∷ []) n f
+    → Wrote (write reply success i t (signed z ∷ run s ∷ []) true l) n r
+run-reply {s = s} {i = i} {t = t} {z = z} {k = k} start end p sizes text tally q =
+    succeeds i t z (run s ∷ []) start end p (text ∙ and-true (textRight k (run s))) tally bytes size q
+  where
+    bytes : bytesOf 4 (length s) ++ (s ++ []) ≡ encode k (run s) ++ []
+    bytes = rw sizes (sym (append-assoc (bytesOf 4 (length s)) s []))
+
+    size : length s + 0 + (9 + 4) ≡ 9 + length (encode k (run s) ++ [])
+    size = rw (← bytes) (omega (arith, length-append (bytesOf 4 (length s)) (s ++ []), length-append s [], length-bytesOf 4 (length s)))
+
+-- ---- a reply without a result
+
+pub plain-reply : (i t : ℕ) {l m n s : List ℕ} {c d f : Cursor} {r : Written} → c ≡ admitted (wellFormed s) (length s + 0 + 9) (length l)
+    → plan reply t ≡ plain (string ∷ []) → Ends f r → Puts l c (bytesOf 4 i ∷ bytesOf 1 t ∷ []) m d → Puts m d (bytesOf 4 (length s) ∷ s ∷ []) n f
+    → Wrote (write reply success i t (run s ∷ []) true l) n r
+unfolding write encodeMessage
+plain-reply i t {l} {m} {n} {s} {c} {d} {f} {r} a p end h q =
+    rw (p, ← (and-true (wellFormed s))) (wrote {es = all} end (wellFormed s) e bytes stored)
+  where
+    e : List ℕ
+    e = bytesOf 4 i ++ (bytesOf 1 t ++ (sized s ++ []))
+
+    all : List (List ℕ)
+    all = bytesOf 4 i ∷ bytesOf 1 t ∷ bytesOf 4 (length s) ∷ s ∷ []
+
+    bytes : concat all ≡ e
+    bytes = rw (append-assoc (bytesOf 4 (length s)) s [])
+
+    size : length s + 0 + 9 ≡ length e
+    size =
+        rw (← bytes)
+        (omega (
+          arith,
+          length-append (bytesOf 4 i) (concat (bytesOf 1 t ∷ bytesOf 4 (length s) ∷ s ∷ [])),
+          length-append (bytesOf 1 t) (concat (bytesOf 4 (length s) ∷ s ∷ [])),
+          length-append (bytesOf 4 (length s)) (s ++ []),
+          length-append s [],
+          length-bytesOf 4 i,
+          length-bytesOf 1 t,
+          length-bytesOf 4 (length s),
+        ))
+
+    stored : Puts l (admitted (wellFormed s) (length e) (length l)) all n f
+    stored = subst (λ (k : ℕ). Puts l (admitted (wellFormed s) k (length l)) all n f) size (rw (← a) (puts-then h q))
+
+-- ---- a failure
+
+failure-uncounted : (count : Bool) (ks : List Kind) (vs : List (Value (List ℕ))) → countRight (led count ks) failure vs ≡ true
+failure-uncounted true ks vs = refl
+failure-uncounted false ks vs = refl
+
+module _ (i t : ℕ) (z : ℤ) (l : List ℕ) where
+  pub no-failure-type : hasShape (plan reply t) failure ≡ false → Wrote (write reply failure i t (signed z ∷ []) true l) l (Refused 3 0)
+  unfolding write
+  no-failure-type h = record { tells = rw h; leaves = rw h }
+
+  module _ {count : Bool} {ks : List Kind} (p : plan reply t ≡ led count ks) where
+    pub no-failure-sign : ltZ z (pos 0) ≡ false → Wrote (write reply failure i t (signed z ∷ []) true l) l (Refused 8 0)
+    unfolding write
+    no-failure-sign h = record { tells = rw (p, negative-below z [], h); leaves = rw (p, negative-below z [], h) }
+
+    pub failed : {n : List ℕ} {c f : Cursor} {r : Written} → c ≡ admitted true 9 (length l) → ltZ z (pos 0) ≡ true → Ends f r
+        → Puts l c (bytesOf 4 i ∷ bytesOf 1 t ∷ bytesOf 4 (bitsOf 4 z) ∷ []) n f → Wrote (write reply failure i t (signed z ∷ []) true l) n r
+    unfolding write encodeMessage
+    failed {n} {c} {f} {r} a h end q = rw (p, negative-below z [], h, failure-uncounted count ks (signed z ∷ [])) (wrote end true e refl stored)
+      where
+        e : List ℕ
+        e = led·bytes i t z []
+
+        stored : Puts l (admitted true (length e) (length l)) (bytesOf 4 i ∷ bytesOf 1 t ∷ bytesOf 4 (bitsOf 4 z) ∷ []) n f
+        stored = subst (λ (k : ℕ). Puts l (admitted true k (length l)) (bytesOf 4 i ∷ bytesOf 1 t ∷ bytesOf 4 (bitsOf 4 z) ∷ []) n f) (sym (led-size i t z [])) (rw (← a) q)
