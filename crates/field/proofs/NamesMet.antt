@@ -9,8 +9,8 @@ use borrow.Author.Tests.{eq-eqb, ne-eqb}
 use Rattle.layout.specs.Kinds.{string, strings}
 use Rattle.layout.specs.Values.{Part, Value, run, runs}
 use Rattle.layout.specs.Reading.{Outcome, got, fail, followed, mapped, numAt, stringAt, stringsAt}
-use Rattle.layout.specs.Names.{position, steps}
-use Rattle.layout.proofs.Iterating.{strings-are-steps}
+use Rattle.layout.specs.Names.{namesAt}
+use Rattle.layout.proofs.Iterating.{strings-are-names}
 use Rattle.field.specs.declared.Cursor.{Cursor}
 use Rattle.field.specs.Cursors.{outcome, Ended, Took}
 use Rattle.field.proofs.Cursors.{chain, map-ended, stays, at-place}
@@ -63,10 +63,10 @@ met-failed {m} {n} {start} {left} {at} h l e =
     let s : left ≡ suc (left - 1) = omega arith in
     h .is ∙ ap (λ (k : ℕ). followed (stringsAt k m at) (λ xs r. got (h .names ++ xs) r)) s ∙ rw e
 
-pub met-all : {m : List ℕ} {n start left at : ℕ} → Met m n start left at → left ≡ 0 → stringsAt n m start ≡ got (steps n m (position start n)) at
+pub met-all : {m : List ℕ} {n start left at : ℕ} → Met m n start left at → left ≡ 0 → stringsAt n m start ≡ got (namesAt n m start) at
 met-all {m} {n} {start} {left} {at} h z =
     let e : stringsAt n m start ≡ got (h .names ++ []) at = h .is ∙ ap (λ (k : ℕ). followed (stringsAt k m at) (λ xs r. got (h .names ++ xs) r)) z in
-    e ∙ ap (λ (xs : List Part). got xs at) (strings-are-steps n m start e)
+    e ∙ ap (λ (xs : List Part). got xs at) (strings-are-names n m start e)
 
 -- ---- a count, and the names behind it
 

@@ -1,8 +1,9 @@
 -- The values of the fields that have members, in the table's order.
 use Prim.Native.Nat.{ℕ}
-use mathlib.Core.List.{List, [], _∷_, _++_}
-use Rattle.layout.specs.Values.{Part, Value, number}
-use Rattle.layout.specs.Names.{position, steps}
+use mathlib.Core.List.{List, [], _∷_, _++_, map}
+use Rattle.layout.specs.Values.{Part, Value, number, signed, truth, run, runs}
+use Rattle.layout.specs.Names.{namesAt}
+use Rattle.field.specs.Cursors.{shown}
 use Rattle.field.specs.declared.Timestamp.{Timestamp}
 use Rattle.field.specs.declared.Attributes.{Attributes}
 use Rattle.field.specs.declared.Statistics.{Statistics}
@@ -38,6 +39,14 @@ statisticsValues s =
     ∷ number (s .namemax)
     ∷ []
 
--- the names themselves: the iterator's steps from the first on, as many as there are
+-- the names themselves: as many as the count says, from the first on
 abbrev pub namesFrom : List ℕ → Names → List Part
-namesFrom m n = steps (n .count) m (position (n .start) (n .count))
+namesFrom m n = namesAt (n .count) m (n .start)
+
+-- what a value says in s; a text or data that does not lie inside s is empty
+abbrev pub shownIn : List ℕ → Value Part → Value (List ℕ)
+shownIn s (number n) = number n
+shownIn s (signed z) = signed z
+shownIn s (truth b) = truth b
+shownIn s (run x) = run (shown s x)
+shownIn s (runs xs) = runs (map (shown s) xs)

@@ -17,7 +17,7 @@ use Rattle.layout.specs.Limits.{truncatedHeader, truncated, headerSize}
 use Rattle.layout.specs.Pieces.{firstBroken, cutAnswer, Agree}
 use Rattle.layout.specs.Values.{Part, Value, number, signed, truth, run, runs, runsOf, bytesIn, content, contents}
 use Rattle.layout.specs.Reading.{Outcome, got, fail, anyBytes, bytesAt, stringsAt, valueOf, Shape, Answer, refused, accepted, read}
-use Rattle.layout.specs.Names.{namesAmong, namesOf, Position, position, firstName, opened, Step, name, ended, stepped, stepBy, step, gather, steps}
+use Rattle.layout.specs.Names.{namesAmong, namesOf, Position, position, firstName, opened, Step, name, ended, stepped, stepBy, step, gather, steps, behindName, namesAt}
 use Rattle.layout.proofs.Tests.{apart, never}
 use Rattle.layout.proofs.Stays.{body-contents}
 use Rattle.layout.proofs.Trace.{NumHere, RunHere, SizedHere, sized-here, StringsHere, no-string, a-string-more, FieldHere, a-num, a-string, a-bytes, a-strings, FieldsHere, no-field, a-field-more, BodyHere, header-only, an-asked, a-plain, a-failure, a-success, MessageHere, sized-reads, strings-traced, message-traced}
@@ -64,6 +64,18 @@ strings-are-steps n m p {xs} e =
     let h = strings-traced n p e in
     let size : length xs ≡ n = strings-count h in
     sym (ap (λ (k : ℕ). steps n m (position p k)) (sym size) ∙ strings-steps n h ∙ take-all n xs (omega arith))
+
+-- and those that stand from there on
+strings-names : {m : List ℕ} {n p q : ℕ} {xs : List Part} → StringsHere m n p xs q → xs ≡ namesAt n m p
+strings-names no-string = refl
+strings-names (a-string-more {x = x} h t) = rw (sized-reads (as-bytes h)) (ap (λ (ys : List Part). x ∷ ys) (strings-names t))
+
+pub strings-are-names : (n : ℕ) (m : List ℕ) (p : ℕ) {xs : List Part} {q : ℕ} → stringsAt n m p ≡ got xs q → xs ≡ namesAt n m p
+strings-are-names n m p e = strings-names (strings-traced n p e)
+
+pub length-namesAt : (n : ℕ) (m : List ℕ) (p : ℕ) → length (namesAt n m p) ≡ n
+length-namesAt zero m p = refl
+length-namesAt (suc n) m p = ap suc (length-namesAt n m (behindName p (bytesAt m p)))
 
 -- ---- the names of a reply stand at 13, by one test over the table
 

@@ -5,6 +5,7 @@ pub mod Fronting
 pub mod Header
 pub mod Iterating
 pub mod PartsNamed
+pub mod ReadFits
 pub mod ReplyTypes
 pub mod Rewritten
 pub mod Sizes

@@ -3,7 +3,7 @@ use Prim.Native.Nat.{ℕ, zero, suc}
 use mathlib.Core.List.{List, [], _∷_}
 use lib.ListN.{length}
 use Rattle.layout.specs.Table.{reply}
-use Rattle.layout.specs.Values.{Part, Value, runsOf}
+use Rattle.layout.specs.Values.{Part, part, Value, runsOf}
 use Rattle.layout.specs.Reading.{Outcome, got, fail, Answer, refused, accepted, read, bytesAt}
 
 -- names stand right behind a result
@@ -49,6 +49,19 @@ stepBy m p (suc n) = stepped (position p (suc n)) n (bytesAt m p)
 -- a step from any position, also one that was made up. The text of a name was checked when the message was read
 unfoldable pub step : List ℕ → Position → Step
 step m w = stepBy m (w .at) (w .left)
+
+-- so many names from place p on. An empty part stands for a name that does not fit, so n names are always n
+abbrev pub nameOr : ℕ → Outcome Part → Part
+nameOr p (got x q) = x
+nameOr p (fail c r) = part p 0
+
+abbrev pub behindName : ℕ → Outcome Part → ℕ
+behindName p (got x q) = q
+behindName p (fail c r) = p
+
+abbrev pub namesAt : ℕ → List ℕ → ℕ → List Part
+namesAt zero m p = []
+namesAt (suc n) m p = nameOr p (bytesAt m p) ∷ namesAt n m (behindName p (bytesAt m p))
 
 abbrev pub gather : {A : Type 0} → Step → (Part → Position → A) → (Position → A) → A
 gather (name x w) f g = f x w

@@ -1,11 +1,17 @@
 -- What positions and steps stand for.
+use lib.ListN.{length}
 use Rattle.layout.specs.Values.{Part}
+use Rattle.layout.specs.Reading.{Answer}
 use Rattle.layout.specs.Parts.{nothing}
 use Rattle.layout.specs.Names as layout
 use Rattle.field.specs.Cursors.{partOf}
 use Rattle.names.specs.declared.Position.{Position}
 use Rattle.names.specs.declared.Step.{Step}
 use Rattle.names.specs.declared.Step.the-variants as S
+
+-- the start on a message that was answered so
+abbrev pub openedBy : Answer → layout.Position
+openedBy a = layout.position layout.firstName (length (layout.namesOf a))
 
 abbrev pub positionOf : Position → layout.Position
 positionOf w = layout.position (w .at) (w .left)

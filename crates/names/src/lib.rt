@@ -1,14 +1,17 @@
 // The names iterator of a readdir reply (document 01: walker). A position is a value, and each step gives the next. A name is a part
 // of the message; its text was checked when the message was read, and no step looks at it again.
 ghost use mathlib.Core.Path.{_≡_};
-ghost use Rattle.layout.specs.Names.{opened, step as step·at};
+ghost use mathlib.Core.List.{List, _∷_};
+ghost use Prim.Native.Nat.{ℕ};
+ghost use lib.IntN.{ℤ};
+ghost use lib.ListN.{length};
+ghost use Rattle.layout.specs.Values.{signed};
+ghost use Rattle.layout.specs.Names.{namesAmong, namesOf, opened, step as step·at};
 ghost use Rattle.field.specs.Cursors.{shown};
-ghost use Rattle.reply_reader.specs.Answers.{answerOf, typeOf};
-ghost use Rattle.names.specs.Opening.{countIn, countAs, countBy, openedBy};
-ghost use Rattle.names.specs.Positions.{positionOf, stepOf, nameOf};
+ghost use Rattle.reply_reader.specs.Answers.{answerOf, valuesOf};
+ghost use Rattle.names.specs.Positions.{openedBy, positionOf, stepOf, nameOf};
 use field::Cursor;
 use field::Run;
-use number::ReadU32;
 use reply_reader::Reply;
 use reply_reader::ReplyAnswer;
 
@@ -29,26 +32,25 @@ pub fn open(m: &[u8]) -> Position
     ensures { λ r. ⌜ positionOf r ≡ opened (now (m .entry)) ⌝ }
 {
     let answer = reply_reader::read_reply(m);
-    open_answer(m, answer)
+    open_answer(answer)
 }
 
-// The start on a message that was answered so. It is not read again: the answer says whether it has names, and the count before them
-// how many; each was met when the message was read. With the reader's answer this is `open`.
-pub fn open_answer(m: &[u8], answer: ReplyAnswer) -> Position
-    ensures { λ r. ⌜ positionOf r ≡ openedBy (now (m .entry)) (answerOf (now (m .entry)) answer) ⌝ }
+// The start on the message that was answered so, which is not read again. With the reader's answer this is `open`.
+pub fn open_answer(answer: ReplyAnswer) -> Position
+    ensures { λ r. ⌜ ((m : List ℕ) → positionOf r ≡ openedBy (answerOf m answer)) ⌝ }
 {
     Position {
         at: 13,
-        left: count_of(m, answer),
+        left: count_of(answer),
     }
 }
 
-// How many names a message has that was answered so.
-fn count_of(m: &[u8], answer: ReplyAnswer) -> u32
-    ensures { λ r. ⌜ r ≡ countBy (now (m .entry)) (answerOf (now (m .entry)) answer) ⌝ }
+// How many names an answer has.
+fn count_of(answer: ReplyAnswer) -> u32
+    ensures { λ r. ⌜ ((m : List ℕ) → r ≡ length (namesOf (answerOf m answer))) ⌝ }
 {
     match answer {
-        ReplyAnswer::Success { reply, .. } => count_of_reply(m, reply),
+        ReplyAnswer::Success { reply, .. } => count_of_reply(reply),
         ReplyAnswer::Failure { .. } => 0,
         ReplyAnswer::Credentials { .. } => 0,
         ReplyAnswer::UnknownResponse { .. } => 0,
@@ -57,24 +59,13 @@ fn count_of(m: &[u8], answer: ReplyAnswer) -> u32
 }
 
 // How many names a success has: none but those of a readdir reply.
-fn count_of_reply(m: &[u8], reply: Reply) -> u32
-    ensures { λ r. ⌜ r ≡ countAs (now (m .entry)) (typeOf reply) ⌝ }
+fn count_of_reply(reply: Reply) -> u32
+    ensures { λ r. ⌜ ((m : List ℕ) (z : ℤ) → r ≡ length (namesAmong (signed z ∷ valuesOf m reply))) ⌝ }
 {
-    if let Reply::Readdir { .. } = reply {
-        return count(m);
+    if let Reply::Readdir { names } = reply {
+        return names.count;
     }
     0
-}
-
-// The number that stands where a readdir reply has the count of its names.
-fn count(m: &[u8]) -> u32
-    ensures { λ r. ⌜ r ≡ countIn (now (m .entry)) ⌝ }
-{
-    let read = number::read_u32(m, 9);
-    match read {
-        ReadU32::Whole(value) => value,
-        ReadU32::Truncated => 0,
-    }
 }
 
 // The next name. Past the last there is none, and the position stays. Every position is taken: at one that was made up the name is
