@@ -15,9 +15,9 @@ use Rattle.layout.specs.Kinds.{Num, u8, i8, u32, i32, u64, bool, Kind, n
 use Rattle.layout.specs.Table.{row, unknownResponse, Side, reply, Plan, unexpected, header, asked, plain, led, planOf, replyPlan, plan}
 use Rattle.layout.specs.Limits.{truncatedHeader, truncated, headerSize}
 use Rattle.layout.specs.Pieces.{firstBroken, cutAnswer, Agree}
-use Rattle.layout.specs.Values.{Part, Value, number, signed, truth, run, runs, runsOf, bytesIn, content, contents}
+use Rattle.layout.specs.Values.{Part, part, Value, number, signed, truth, run, runs, runsOf, bytesIn, content, contents}
 use Rattle.layout.specs.Reading.{Outcome, got, fail, anyBytes, bytesAt, stringsAt, valueOf, Shape, Answer, refused, accepted, read}
-use Rattle.layout.specs.Names.{namesAmong, namesOf, Position, position, firstName, opened, Step, name, ended, stepped, stepBy, step, gather, steps, behindName, namesAt}
+use Rattle.layout.specs.Names.{namesAmong, namesOf, Position, position, firstName, opened, Step, name, ended, stepped, stepBy, step, gather, steps, nameOr, behindName, namesAt}
 use Rattle.layout.proofs.Tests.{apart, never}
 use Rattle.layout.proofs.Stays.{body-contents}
 use Rattle.layout.proofs.Trace.{NumHere, RunHere, SizedHere, sized-here, StringsHere, no-string, a-string-more, FieldHere, a-num, a-string, a-bytes, a-strings, FieldsHere, no-field, a-field-more, BodyHere, header-only, an-asked, a-plain, a-failure, a-success, MessageHere, sized-reads, strings-traced, message-traced}
@@ -72,6 +72,25 @@ strings-names (a-string-more {x = x} h t) = rw (sized-reads (as-bytes h)) (ap (�
 
 pub strings-are-names : (n : ℕ) (m : List ℕ) (p : ℕ) {xs : List Part} {q : ℕ} → stringsAt n m p ≡ got xs q → xs ≡ namesAt n m p
 strings-are-names n m p e = strings-names (strings-traced n p e)
+
+-- names that are those of strings are the iterator's, from wherever they were found
+pub names-are-steps : (n : ℕ) (m : List ℕ) (p : ℕ) {k r q : ℕ} {xs : List Part} → StringsHere m k r xs q → namesAt n m p ≡ xs → steps n m (position p n) ≡ xs
+unfolding step
+names-are-steps zero m p h e = e
+names-are-steps (suc n) m p no-string e = let z : _≡_ {A = ℕ} 0 1 = cc in apart z
+names-are-steps (suc n) m p (a-string-more {x = x} {xs = xs} (sized-here {p = r} {n = w} g i) t) e = go (λ q f. names-are-steps n m q t f) (bytesAt m p) e
+  where
+    go : ((q : ℕ) → namesAt n m q ≡ xs → steps n m (position q n) ≡ xs) → (o : Outcome Part) → nameOr o ∷ namesAt n m (behindName p o) ≡ x ∷ xs
+        → gather (stepped (position p (suc n)) n o) (λ y v. y ∷ steps n m v) (λ v. steps n m v) ≡ x ∷ xs
+    go next (got y q) e =
+        let head : y ≡ x = cc in
+        let tail : namesAt n m q ≡ xs = cc in
+        ap (λ (y : Part). y ∷ steps n m (position q n)) head ∙ ap (λ (ys : List Part). x ∷ ys) (next q tail)
+    go next (fail c q) e =
+        let none : part 0 0 ≡ x = cc in
+        let z : 0 ≡ r + 4 = ap (λ (y : Part). y .start) none in
+        let never : ⊥ = omega arith in
+        absurd never
 
 pub length-namesAt : (n : ℕ) (m : List ℕ) (p : ℕ) → length (namesAt n m p) ≡ n
 length-namesAt zero m p = refl

@@ -50,10 +50,10 @@ stepBy m p (suc n) = stepped (position p (suc n)) n (bytesAt m p)
 unfoldable pub step : List ℕ → Position → Step
 step m w = stepBy m (w .at) (w .left)
 
--- so many names from place p on. An empty part stands for a name that does not fit, so n names are always n
-abbrev pub nameOr : ℕ → Outcome Part → Part
-nameOr p (got x q) = x
-nameOr p (fail c r) = part p 0
+-- so many names from place p on. For one that does not fit stands a part that no name has, so n names are always n
+abbrev pub nameOr : Outcome Part → Part
+nameOr (got x q) = x
+nameOr (fail c r) = part 0 0
 
 abbrev pub behindName : ℕ → Outcome Part → ℕ
 behindName p (got x q) = q
@@ -61,7 +61,7 @@ behindName p (fail c r) = p
 
 abbrev pub namesAt : ℕ → List ℕ → ℕ → List Part
 namesAt zero m p = []
-namesAt (suc n) m p = nameOr p (bytesAt m p) ∷ namesAt n m (behindName p (bytesAt m p))
+namesAt (suc n) m p = nameOr (bytesAt m p) ∷ namesAt n m (behindName p (bytesAt m p))
 
 abbrev pub gather : {A : Type 0} → Step → (Part → Position → A) → (Position → A) → A
 gather (name x w) f g = f x w

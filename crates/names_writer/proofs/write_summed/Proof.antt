@@ -1,0 +1,40 @@
+-- `names_writer::write_summed` meets its contract. Assumes nothing.
+use mir.Syntax.{w32}
+use mir.ValLaws.{toZ-ofZ}
+use borrow.Author.Needs.{needs}
+use Rattle.store.specs.Stored.{more}
+use Rattle.store.proofs.Storing.{puts-then}
+use Rattle.names_writer.proofs.Readdirs.{names-wrote}
+use Rattle.names_writer.proofs.write_summed.Statement.{statement}
+use Rattle.names_writer.proofs.write_summed.Tie as tie
+
+returns : tie.Need-returns
+returns c =
+    let names = c .before .before .before in
+    let count = names .before .before .before .before in
+    let result = count .before .before .before .before in
+    let header = result .before .before .before .before in
+    let admit = header .before .before in
+    let start = admit .before .before .before .before .before in
+    let a = start .args in
+    names-wrote (a .id) (a .result) (a .lengths .now) (a .names .now) (start .pre) (admit .before .are-texts .ensures) (admit .admit .ensures)
+    (puts-then (header .put-header .ensures)
+    (more (rw (toZ-ofZ w32 (a .result) (search needs)) at (result .put-i32 .ensures))
+    (more (count .put-u32 .ensures) (names .put-names .ensures))))
+    (c .finish .ensures)
+
+pub write-summed-spec : {M : Type 1} → statement M
+write-summed-spec =
+    tie.close
+    (tie.spec
+    (λ c κs. search needs)
+    (λ c. search needs)
+    (λ c κs. search needs)
+    (λ c κs. search needs)
+    (λ c κs. search needs)
+    (λ c. search needs)
+    (λ c κs. search needs)
+    (λ c κs. search needs)
+    (λ c κs. search needs)
+    (λ c. search needs)
+    returns)

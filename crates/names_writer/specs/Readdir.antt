@@ -1,0 +1,24 @@
+-- A readdir reply, stored with its names one after another.
+use Prim.Native.Nat.{ℕ}
+use mathlib.Core.List.{List, [], _∷_}
+use lib.IntN.{ℤ}
+use lib.ListN.{length}
+use Rattle.number.specs.BigEndian.{bytesOf}
+use Rattle.method.specs.declared.Method.the-variants.{Readdir}
+use Rattle.method.specs.Methods.{replyNumber}
+use Rattle.layout.specs.Limits.{malformedText}
+use Rattle.layout.specs.Table.{reply}
+use Rattle.layout.specs.Values.{signed, runs}
+use Rattle.layout.specs.Reading.{success}
+use Rattle.layout.specs.Writing.{encodeMessage, allWellFormed, Written, check, storeChecked}
+
+-- the length of each name, and its bytes
+abbrev pub namePieces : List (List ℕ) → List (List ℕ)
+namePieces [] = []
+namePieces (s ∷ ss) = bytesOf 4 (length s) ∷ s ∷ namePieces ss
+
+-- what is left of the writer once the sign and the lengths are right
+abbrev pub storeNames : ℕ → ℤ → List (List ℕ) → List ℕ → Written
+storeNames i r ss out =
+    check malformedText (allWellFormed ss) out
+    (storeChecked (encodeMessage reply success i (replyNumber Readdir) (signed r ∷ runs ss ∷ [])) out)

@@ -1,0 +1,197 @@
+// The readdir reply, written into a lent buffer. Its names are given as one run of bytes and a list of lengths; those of a reply
+// that was read are collected into this form. All checks stand before the first store, so a refusal changes no byte.
+ghost use mathlib.Core.Path.{_≡_};
+ghost use lib.Dec.{eqb};
+ghost use lib.ListN.{length};
+ghost use Rattle.layout.specs.Reading.{bytesAt};
+ghost use Rattle.layout.specs.Writing.{allWellFormed, split, sum, writeNames};
+ghost use Rattle.store.specs.Stored.{Puts, Wrote};
+ghost use Rattle.names_writer.specs.Readdir.{namePieces, storeNames};
+ghost use Rattle.names_writer.specs.Collecting.{namesIn, nextOf, sizes, counted, buffers, Collects, RoomFor, Copies};
+use field::Cursor;
+use field::Names;
+use method::Method;
+use number::ReadU32;
+use store::Written;
+
+// The success reply of readdir: `names` are the names one behind the other, `lengths` the length of each.
+pub fn write_readdir(id: u32, result: i32, names: &[u8], lengths: &[u32], out: &mut [u8]) -> Written
+    ensures { λ r. ⌜ Wrote (writeNames id result (now (lengths .entry)) (now (names .entry)) (now (out .entry))) (now (out .exit)) r ⌝ }
+{
+    if result < 0 {
+        return Written::Refused {
+            number: 8,
+            place: 0,
+        };
+    }
+    if sums_to(lengths, names.len()) {
+        return write_summed(id, result, names, lengths, out);
+    }
+    Written::Refused {
+        number: 9,
+        place: 0,
+    }
+}
+
+// The lengths sum to `total`. Each is taken from what is left, so that no sum wraps.
+fn sums_to(lengths: &[u32], total: usize) -> bool
+    ensures { λ r. ⌜ r ≡ eqb (sum (now (lengths .entry))) total ⌝ }
+{
+    let mut left = total;
+    let mut i = 0;
+    while i < lengths.len() {
+        let len = lengths[i] as usize;
+        if left < len {
+            return false;
+        }
+        left -= len;
+        i += 1;
+    }
+    left == 0
+}
+
+// The reply, its lengths known to sum to the run. Four times the length of a slice of u32 is a number of bytes, which does not
+// wrap, and `admit` tests each summand of the size before it adds.
+fn write_summed(id: u32, result: i32, names: &[u8], lengths: &[u32], out: &mut [u8]) -> Written
+    requires { ⌜ sum (now lengths) ≡ length (now names) ⌝ }
+    ensures { λ r. ⌜ Wrote (storeNames id result (split (now (lengths .entry)) (now (names .entry))) (now (out .entry))) (now (out .exit)) r ⌝ }
+{
+    let texts = are_texts(names, lengths);
+    let start = store::admit(texts, names.len(), 4 * lengths.len(), 13, out.len());
+    let header = store::put_header(out, start, id, Method::READDIR_REPLY);
+    let behind_result = store::put_i32(out, header, result);
+    let count = (lengths.len() % 0x1_0000_0000) as u32;
+    let behind_count = store::put_u32(out, behind_result, count);
+    let behind_names = put_names(out, behind_count, names, lengths);
+    store::finish(behind_names)
+}
+
+// Each name by itself is well-formed text.
+fn are_texts(names: &[u8], lengths: &[u32]) -> bool
+    requires { ⌜ sum (now lengths) ≡ length (now names) ⌝ }
+    ensures { λ r. ⌜ r ≡ allWellFormed (split (now (lengths .entry)) (now (names .entry))) ⌝ }
+{
+    let mut at = 0;
+    let mut i = 0;
+    while i < lengths.len() {
+        let len = lengths[i] as usize;
+        let end = at + len;
+        if !store::is_text(&names[at..end]) {
+            return false;
+        }
+        at = end;
+        i += 1;
+    }
+    true
+}
+
+// Each name: its length, then its bytes.
+fn put_names(out: &mut [u8], c: Cursor, names: &[u8], lengths: &[u32]) -> Cursor
+    requires { ⌜ sum (now lengths) ≡ length (now names) ⌝ }
+    ensures { λ r. ⌜ Puts (now (out .entry)) c (namePieces (split (now (lengths .entry)) (now (names .entry)))) (now (out .exit)) r ⌝ }
+{
+    let mut next = c;
+    let mut at = 0;
+    let mut i = 0;
+    while i < lengths.len() {
+        let len = lengths[i] as usize;
+        let end = at + len;
+        next = store::put_run(out, next, &names[at..end]);
+        at = end;
+        i += 1;
+    }
+    next
+}
+
+// What collecting names answers: so many names with so many bytes in all were copied, or a lent buffer is too short for them.
+pub enum Collected {
+    Copied { count: usize, len: usize },
+    NoRoom,
+}
+
+// The names that stand in a readdir reply, as `write_readdir` takes them: their bytes as one run, and their lengths. The room is
+// looked at before the first is copied. A name that does not fit into the message ends the names, so made-up ones do no harm.
+pub fn collect_names(m: &[u8], names: Names, run: &mut [u8], lengths: &mut [u32]) -> Collected
+    ensures { λ r. ⌜ Collects (now (m .entry)) (namesIn (now (m .entry)) names) (buffers (now (run .entry)) (now (lengths .entry))) (buffers (now (run .exit)) (now (lengths .exit))) r ⌝ }
+{
+    let answer = count_names(m, names, run.len(), lengths.len());
+    match answer {
+        Collected::Copied { count, len } => {
+            copy_names(m, names, run, lengths);
+            Collected::Copied { count, len }
+        }
+        Collected::NoRoom => Collected::NoRoom,
+    }
+}
+
+// What collecting will answer, with room for `room` bytes and `most` lengths.
+fn count_names(m: &[u8], names: Names, room: usize, most: usize) -> Collected
+    ensures { λ r. ⌜ r ≡ counted (sizes (namesIn (now (m .entry)) names)) room most ⌝ }
+{
+    let mut at = names.start;
+    let mut left = names.count;
+    let mut count = 0;
+    let mut total = 0;
+    while 0 < left {
+        let next = name_at(m, at);
+        let Next::Name { start, len } = next else {
+            return Collected::Copied { count, len: total };
+        };
+        let len = len as usize;
+        if most <= count {
+            return Collected::NoRoom;
+        }
+        if room - total < len {
+            return Collected::NoRoom;
+        }
+        at = start + len;
+        left -= 1;
+        count += 1;
+        total += len;
+    }
+    Collected::Copied { count, len: total }
+}
+
+// Copies the names. There is room for them.
+fn copy_names(m: &[u8], names: Names, run: &mut [u8], lengths: &mut [u32])
+    requires { ⌜ RoomFor (sizes (namesIn (now m) names)) (buffers (now run) (now lengths)) ⌝ }
+    ensures { λ _. ⌜ Copies (now (m .entry)) (namesIn (now (m .entry)) names) (buffers (now (run .entry)) (now (lengths .entry))) (buffers (now (run .exit)) (now (lengths .exit))) ⌝ }
+{
+    let mut behind = Cursor { code: 0, at: 0 };
+    let mut at = names.start;
+    let mut left = names.count;
+    let mut done = 0;
+    while 0 < left {
+        let next = name_at(m, at);
+        let Next::Name { start, len } = next else {
+            return;
+        };
+        let end = start + len as usize;
+        behind = store::put_all(run, behind, &m[start..end]);
+        lengths[done] = len;
+        at = end;
+        left -= 1;
+        done += 1;
+    }
+}
+
+// A name of the message: where its bytes begin, and how many they are. Or none, where it does not fit into the message.
+enum Next {
+    Name { start: usize, len: u32 },
+    End,
+}
+
+// The name whose length stands at `at`.
+fn name_at(m: &[u8], at: usize) -> Next
+    ensures { λ r. ⌜ r ≡ nextOf (bytesAt (now (m .entry)) at) ⌝ }
+{
+    let read = number::read_u32(m, at);
+    let ReadU32::Whole(len) = read else {
+        return Next::End;
+    };
+    let start = at + 4;
+    if m.len() - start < len as usize {
+        return Next::End;
+    }
+    Next::Name { start, len }
+}
