@@ -1,0 +1,133 @@
+//! Taking a case's body apart.
+
+use crate::methods::{Field, Kind};
+use crate::value::Value;
+
+/// The longest message, text, data or buffer of a case.
+const LONGEST: usize = 70_000;
+
+/// The most lengths of a readdir case.
+const MOST_LENGTHS: usize = 2_000;
+
+type Taken<T> = Result<T, String>;
+
+/// The value of one field as a case gives it; a text or data is put
+/// together here.
+pub enum Given {
+    Number(Value<'static>),
+    Run(Vec<u8>),
+}
+
+impl Given {
+    pub fn value(&self) -> Value<'_> {
+        match self {
+            Given::Number(value) => *value,
+            Given::Run(bytes) => Value::run(bytes),
+        }
+    }
+}
+
+pub struct Body<'a> {
+    left: &'a [u8],
+}
+
+impl<'a> Body<'a> {
+    pub fn new(bytes: &'a [u8]) -> Body<'a> {
+        Body { left: bytes }
+    }
+
+    fn take(&mut self, length: usize) -> Taken<&'a [u8]> {
+        if length > self.left.len() {
+            return Err("the body ends early".to_string());
+        }
+        let (taken, left) = self.left.split_at(length);
+        self.left = left;
+        Ok(taken)
+    }
+
+    pub fn u8(&mut self) -> Taken<u8> {
+        Ok(self.take(1)?[0])
+    }
+
+    pub fn u32(&mut self) -> Taken<u32> {
+        let mut bytes = [0; 4];
+        bytes.copy_from_slice(self.take(4)?);
+        Ok(u32::from_be_bytes(bytes))
+    }
+
+    pub fn i32(&mut self) -> Taken<i32> {
+        Ok(self.u32()? as i32)
+    }
+
+    fn u64(&mut self) -> Taken<u64> {
+        Ok(u64::from(self.u32()?) << 32 | u64::from(self.u32()?))
+    }
+
+    fn size(&mut self, most: usize) -> Taken<usize> {
+        let size = self.u32()? as usize;
+        if size > most {
+            return Err(format!("a size of {size}"));
+        }
+        Ok(size)
+    }
+
+    /// The lent buffer with its pattern.
+    pub fn buffer(&mut self) -> Taken<Vec<u8>> {
+        let size = self.size(LONGEST)?;
+        Ok((0..size).map(|index| ((index * 7 + 3) % 251) as u8).collect())
+    }
+
+    /// A message: its length, the fill, and the rest of the body as prefix.
+    pub fn message(&mut self) -> Taken<Vec<u8>> {
+        let whole = self.size(LONGEST)?;
+        let fill = self.u8()?;
+        let prefix = self.take(self.left.len())?;
+        Ok(filled(prefix, whole, fill))
+    }
+
+    /// A text or data of a writer.
+    pub fn run(&mut self) -> Taken<Vec<u8>> {
+        let whole = self.size(LONGEST)?;
+        let fill = self.u8()?;
+        let length = self.u32()? as usize;
+        let prefix = self.take(length)?;
+        Ok(filled(prefix, whole, fill))
+    }
+
+    pub fn lengths(&mut self) -> Taken<Vec<u32>> {
+        let count = self.size(MOST_LENGTHS)?;
+        (0..count).map(|_| self.u32()).collect()
+    }
+
+    fn given(&mut self, kind: Kind) -> Taken<Given> {
+        Ok(match kind {
+            Kind::U8 => Given::Number(Value::Unsigned(u64::from(self.u8()?))),
+            Kind::U32 => Given::Number(Value::Unsigned(u64::from(self.u32()?))),
+            Kind::U64 => Given::Number(Value::Unsigned(self.u64()?)),
+            Kind::I8 => Given::Number(Value::Signed(i32::from(self.u8()? as i8))),
+            Kind::I32 => Given::Number(Value::Signed(self.i32()?)),
+            Kind::Bool => Given::Number(Value::Bool(self.u8()? != 0)),
+            Kind::Text | Kind::Data => Given::Run(self.run()?),
+            Kind::Names => return Err("names have an op of their own".to_string()),
+        })
+    }
+
+    pub fn fields(&mut self, fields: &[Field]) -> Taken<Vec<Given>> {
+        fields.iter().map(|field| self.given(field.kind)).collect()
+    }
+
+    /// Nothing may be left over.
+    pub fn end(&self) -> Taken<()> {
+        if self.left.is_empty() {
+            Ok(())
+        } else {
+            Err(format!("{} bytes too many in the body", self.left.len()))
+        }
+    }
+}
+
+fn filled(prefix: &[u8], whole: usize, fill: u8) -> Vec<u8> {
+    let mut bytes = prefix.to_vec();
+    bytes.resize(whole, fill);
+    bytes
+}

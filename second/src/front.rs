@@ -1,0 +1,41 @@
+//! The provider's front: answers the requests that need no file system.
+
+use crate::refusal::{Refusal, OVERSIZE, TRUNCATED_HEADER};
+use crate::request::{read_request, Request};
+use crate::write_reply::{write_failure, write_unknown_response};
+
+/// The result for a request that is short or has a bad text.
+const INVALID: i32 = -22;
+
+#[derive(Debug, PartialEq, Eq)]
+pub enum Front {
+    /// The request is for the provider; nothing was stored.
+    HandedOn,
+    /// So many bytes were stored in the reply buffer.
+    Stored(usize),
+    /// The number of the refusal; nothing was stored.
+    Refused(u8),
+}
+
+pub fn front(request: &[u8], buffer: &mut [u8]) -> Front {
+    let stored = match read_request(request) {
+        Request::Known { .. } => return Front::HandedOn,
+        Request::Unknown { id, .. } => write_unknown_response(buffer, id),
+        Request::Refused(Refusal { number: TRUNCATED_HEADER, .. }) => {
+            return Front::Refused(TRUNCATED_HEADER)
+        }
+        Request::Refused(Refusal { number: OVERSIZE, .. }) => {
+            write_unknown_response(buffer, id_of(request))
+        }
+        Request::Refused(_) => write_failure(buffer, id_of(request), request[4] + 0x80, INVALID),
+    };
+    match stored {
+        Ok(length) => Front::Stored(length),
+        Err(refusal) => Front::Refused(refusal.number),
+    }
+}
+
+/// A refusal shows no field, so the id is taken from the bytes.
+fn id_of(request: &[u8]) -> u32 {
+    u32::from_be_bytes([request[0], request[1], request[2], request[3]])
+}

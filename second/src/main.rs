@@ -1,0 +1,45 @@
+//! The program: `second make SEED COUNT` writes framed cases,
+//! `second answer` answers the cases of its standard input.
+
+use std::env;
+use std::io::{self, BufReader, BufWriter, Write};
+use std::process::ExitCode;
+
+use second::answer::answer_all;
+use second::make::Cases;
+
+fn main() -> ExitCode {
+    let arguments: Vec<String> = env::args().skip(1).collect();
+    let words: Vec<&str> = arguments.iter().map(String::as_str).collect();
+    let done = match words[..] {
+        ["make", seed, count] => match (seed.parse(), count.parse()) {
+            (Ok(seed), Ok(count)) => make(seed, count),
+            _ => return usage(),
+        },
+        ["answer"] => {
+            let input = BufReader::with_capacity(1 << 16, io::stdin().lock());
+            answer_all(input, BufWriter::new(io::stdout().lock()))
+        }
+        _ => return usage(),
+    };
+    match done {
+        Ok(()) => ExitCode::SUCCESS,
+        Err(error) => {
+            eprintln!("second: {error}");
+            ExitCode::from(1)
+        }
+    }
+}
+
+fn make(seed: u64, count: usize) -> io::Result<()> {
+    let mut output = BufWriter::with_capacity(1 << 16, io::stdout().lock());
+    for case in Cases::new(seed).take(count) {
+        output.write_all(&case.framed())?;
+    }
+    output.flush()
+}
+
+fn usage() -> ExitCode {
+    eprintln!("usage: second make SEED COUNT | second answer");
+    ExitCode::from(2)
+}

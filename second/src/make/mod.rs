@@ -1,0 +1,68 @@
+//! Makes framed cases: first a fixed list, then random ones by seed.
+
+pub mod case;
+mod list_cuts;
+mod list_front;
+mod list_lengths;
+mod list_long;
+mod list_methods;
+mod list_results;
+mod list_rows;
+mod list_text;
+mod list_types;
+mod list_write_names;
+mod list_write_replies;
+mod list_write_requests;
+mod prng;
+mod put;
+mod random;
+mod random_messages;
+mod random_values;
+mod random_writers;
+mod styles;
+
+use std::collections::HashSet;
+
+use case::Case;
+use prng::Prng;
+
+/// The cases that every run begins with, whatever its seed, each once.
+pub fn fixed_list() -> Vec<Case> {
+    let mut out = Vec::new();
+    list_rows::add(&mut out);
+    list_types::add(&mut out);
+    list_methods::add(&mut out);
+    list_cuts::add(&mut out);
+    list_lengths::add(&mut out);
+    list_text::add(&mut out);
+    list_results::add(&mut out);
+    list_long::add(&mut out);
+    list_write_requests::add(&mut out);
+    list_write_replies::add(&mut out);
+    list_write_names::add(&mut out);
+    list_front::add(&mut out);
+    let mut met = HashSet::new();
+    out.retain(|case| met.insert(case.framed()));
+    out
+}
+
+/// The cases of one run, without end.
+pub struct Cases {
+    fixed: std::vec::IntoIter<Case>,
+    prng: Prng,
+}
+
+impl Cases {
+    pub fn new(seed: u64) -> Cases {
+        Cases { fixed: fixed_list().into_iter(), prng: Prng::new(seed) }
+    }
+}
+
+impl Iterator for Cases {
+    type Item = Case;
+
+    fn next(&mut self) -> Option<Case> {
+        let fixed = self.fixed.next();
+        Some(fixed.unwrap_or_else(|| random::case(&mut self.prng)))
+    }
+}
