@@ -2,6 +2,7 @@
 use crate::print;
 use field::Attributes;
 use field::Names;
+use field::Run;
 use field::Statistics;
 use reply_reader::Reply;
 use reply_reader::ReplyAnswer;
@@ -59,14 +60,8 @@ fn show_answer(answer: ReplyAnswer) {
 fn show_reply(reply: Reply) {
     match reply {
         Reply::Access => print::put(b"access"),
-        Reply::Getattr { attributes } => {
-            print::put(b"getattr");
-            show_attributes(attributes);
-        }
-        Reply::Readlink { resolved } => {
-            print::put(b"readlink");
-            print::run(b"resolved", resolved);
-        }
+        Reply::Getattr { attributes } => show_attributes(attributes),
+        Reply::Readlink { resolved } => show_run(b"readlink", b"resolved", resolved),
         Reply::Symlink => print::put(b"symlink"),
         Reply::Link => print::put(b"link"),
         Reply::Rename => print::put(b"rename"),
@@ -74,42 +69,39 @@ fn show_reply(reply: Reply) {
         Reply::Chown => print::put(b"chown"),
         Reply::Truncate => print::put(b"truncate"),
         Reply::Fsync => print::put(b"fsync"),
-        Reply::Open { handle } => {
-            print::put(b"open");
-            print::count(b"handle", handle);
-        }
+        Reply::Open { handle } => show_handle(b"open", handle),
         Reply::Mknod => print::put(b"mknod"),
-        Reply::Create { handle } => {
-            print::put(b"create");
-            print::count(b"handle", handle);
-        }
+        Reply::Create { handle } => show_handle(b"create", handle),
         Reply::Release => print::put(b"release"),
         Reply::Unlink => print::put(b"unlink"),
-        Reply::Read { data } => {
-            print::put(b"read");
-            print::run(b"data", data);
-        }
+        Reply::Read { data } => show_run(b"read", b"data", data),
         Reply::Write => print::put(b"write"),
         Reply::Mkdir => print::put(b"mkdir"),
-        Reply::Readdir { names } => {
-            print::put(b"readdir");
-            show_names(names);
-        }
+        Reply::Readdir { names } => show_names(names),
         Reply::Rmdir => print::put(b"rmdir"),
-        Reply::Statfs { statistics } => {
-            print::put(b"statfs");
-            show_statistics(statistics);
-        }
+        Reply::Statfs { statistics } => show_statistics(statistics),
         Reply::Utimens => print::put(b"utimens"),
     }
 }
 
+fn show_run(name: &[u8], field: &[u8], run: Run) {
+    print::put(name);
+    print::run(field, run);
+}
+
+fn show_handle(name: &[u8], handle: u64) {
+    print::put(name);
+    print::count(b"handle", handle);
+}
+
 fn show_names(names: Names) {
+    print::put(b"readdir");
     print::count(b"items", names.count as u64);
     print::count(b"from", names.start as u64);
 }
 
 fn show_attributes(a: Attributes) {
+    print::put(b"getattr");
     print::count(b"inode", a.inode);
     print::count(b"nlink", a.nlink);
     print::count(b"mode", a.mode as u64);
@@ -127,6 +119,7 @@ fn show_attributes(a: Attributes) {
 }
 
 fn show_statistics(s: Statistics) {
+    print::put(b"statfs");
     print::count(b"bsize", s.bsize);
     print::count(b"frsize", s.frsize);
     print::count(b"blocks", s.blocks);

@@ -65,10 +65,14 @@ pub fn part(name: &[u8], s: &[u8]) {
     if 0 < s.len() {
         put(b" ");
         put(name);
-        put(b" '");
-        put(s);
-        put(b"'");
+        quoted(s);
     }
+}
+
+pub fn quoted(s: &[u8]) {
+    put(b" '");
+    put(s);
+    put(b"'");
 }
 
 pub fn refused(number: u8, place: usize) {
@@ -80,4 +84,36 @@ pub fn refused(number: u8, place: usize) {
 
 pub fn end_line() {
     put(b"\n");
+}
+
+pub fn decimal(n: u64) {
+    io::print_decimal(STDOUT_FILENO, n);
+}
+
+// Bytes in hex.
+pub fn hex(s: &[u8]) {
+    let mut i = 0;
+    while i < s.len() {
+        hex_byte(s[i]);
+        i += 1;
+    }
+}
+
+fn hex_byte(b: u8) {
+    io::print_hex(STDOUT_FILENO, b as u64, 2);
+}
+
+// A message in hex as document 01 has it: id, type and the rest.
+pub fn message(m: &[u8]) {
+    if m.len() < 5 {
+        hex(m);
+        return;
+    }
+    hex(&m[0..4]);
+    put(b" ");
+    hex(&m[4..5]);
+    if 5 < m.len() {
+        put(b" ");
+        hex(&m[5..]);
+    }
 }
