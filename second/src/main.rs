@@ -1,4 +1,4 @@
-//! The program: `second make SEED COUNT` writes framed cases,
+//! The program: `second make SEED COUNT [OPS]` writes framed cases,
 //! `second answer` answers the cases of its standard input.
 
 use std::env;
@@ -6,16 +6,19 @@ use std::io::{self, BufReader, BufWriter, Write};
 use std::process::ExitCode;
 
 use second::answer::answer_all;
-use second::make::Cases;
+use second::make::{Cases, OPS};
 
 fn main() -> ExitCode {
     let arguments: Vec<String> = env::args().skip(1).collect();
     let words: Vec<&str> = arguments.iter().map(String::as_str).collect();
     let done = match words[..] {
-        ["make", seed, count] => match (seed.parse(), count.parse()) {
-            (Ok(seed), Ok(count)) => make(seed, count),
-            _ => return usage(),
-        },
+        ["make", seed, count, ref ops @ ..] if ops.len() <= 1 => {
+            let ops = ops.first().copied().unwrap_or(OPS);
+            match (seed.parse(), count.parse(), known(ops)) {
+                (Ok(seed), Ok(count), true) => make(seed, count, ops),
+                _ => return usage(),
+            }
+        }
         ["answer"] => {
             let input = BufReader::with_capacity(1 << 16, io::stdin().lock());
             answer_all(input, BufWriter::new(io::stdout().lock()))
@@ -31,15 +34,20 @@ fn main() -> ExitCode {
     }
 }
 
-fn make(seed: u64, count: usize) -> io::Result<()> {
+/// Some ops, and no other letter.
+fn known(ops: &str) -> bool {
+    !ops.is_empty() && ops.chars().all(|op| OPS.contains(op))
+}
+
+fn make(seed: u64, count: usize, ops: &str) -> io::Result<()> {
     let mut output = BufWriter::with_capacity(1 << 16, io::stdout().lock());
-    for case in Cases::new(seed).take(count) {
+    for case in Cases::of(seed, ops).take(count) {
         output.write_all(&case.framed())?;
     }
     output.flush()
 }
 
 fn usage() -> ExitCode {
-    eprintln!("usage: second make SEED COUNT | second answer");
+    eprintln!("usage: second make SEED COUNT [OPS] | second answer");
     ExitCode::from(2)
 }

@@ -3,6 +3,7 @@
 
 use std::env;
 use std::io::{self, BufRead, BufReader, BufWriter, IsTerminal, Read, Write};
+use std::iter::Take;
 use std::process::{Command, ExitCode, Stdio};
 use std::thread;
 use std::time::Instant;
@@ -10,7 +11,7 @@ use std::time::Instant;
 use second::answer::answer;
 use second::hex::to_hex;
 use second::make::case::Case;
-use second::make::Cases;
+use second::make::{Cases, OPS};
 
 /// A longer line of the program is cut, so that memory stays bounded.
 const LONGEST_LINE: u64 = 1 << 20;
@@ -24,13 +25,14 @@ type Outcome = Result<(), (u8, String)>;
 struct Plan {
     seed: u64,
     count: usize,
+    ops: String,
     program: String,
     arguments: Vec<String>,
 }
 
 fn main() -> ExitCode {
     let Some(plan) = plan(env::args().skip(1).collect()) else {
-        eprintln!("usage: compare SEED COUNT PROGRAM [ARGUMENT...]");
+        eprintln!("usage: compare [--ops=OPS] SEED COUNT PROGRAM [ARGUMENT...]");
         return ExitCode::from(FAULT);
     };
     let begin = Instant::now();
@@ -47,11 +49,20 @@ fn main() -> ExitCode {
     }
 }
 
-fn plan(words: Vec<String>) -> Option<Plan> {
+fn plan(mut words: Vec<String>) -> Option<Plan> {
+    let mut ops = OPS.to_string();
+    if let Some(chosen) = words.first()?.strip_prefix("--ops=") {
+        ops = chosen.to_string();
+        words.remove(0);
+    }
+    if ops.is_empty() || !ops.chars().all(|op| OPS.contains(op)) {
+        return None;
+    }
     let (fixed, arguments) = words.split_at_checked(3)?;
     Some(Plan {
         seed: fixed[0].parse().ok()?,
         count: fixed[1].parse().ok()?,
+        ops,
         program: fixed[2].clone(),
         arguments: arguments.to_vec(),
     })
@@ -69,9 +80,9 @@ fn run(plan: &Plan) -> Outcome {
         .map_err(|error| (FAULT, format!("cannot start {}: {error}", plan.program)))?;
     let input = child.stdin.take().expect("a pipe was asked for");
     let output = child.stdout.take().expect("a pipe was asked for");
-    let (seed, count) = (plan.seed, plan.count);
-    let feeder = thread::spawn(move || feed(input, seed, count));
-    let checked = check(BufReader::new(output), seed, count);
+    let (fed, expected) = (cases(plan), cases(plan));
+    let feeder = thread::spawn(move || feed(input, fed));
+    let checked = check(BufReader::new(output), expected);
     if io::stderr().is_terminal() {
         eprintln!();
     }
@@ -90,17 +101,21 @@ fn run(plan: &Plan) -> Outcome {
     Ok(())
 }
 
-fn feed(input: impl Write, seed: u64, count: usize) -> io::Result<()> {
+fn cases(plan: &Plan) -> Take<Cases> {
+    Cases::of(plan.seed, &plan.ops).take(plan.count)
+}
+
+fn feed(input: impl Write, cases: Take<Cases>) -> io::Result<()> {
     let mut input = BufWriter::with_capacity(1 << 16, input);
-    for case in Cases::new(seed).take(count) {
+    for case in cases {
         input.write_all(&case.framed())?;
     }
     input.flush()
 }
 
-fn check(mut output: impl BufRead, seed: u64, count: usize) -> Outcome {
+fn check(mut output: impl BufRead, cases: Take<Cases>) -> Outcome {
     let terminal = io::stderr().is_terminal();
-    for (number, case) in Cases::new(seed).take(count).enumerate() {
+    for (number, case) in cases.enumerate() {
         let ours = answer(case.op, &case.body)
             .map_err(|error| (FAULT, format!("case {number} is not answered here: {error}")))?;
         let theirs = next_line(&mut output)?;
@@ -113,7 +128,7 @@ fn check(mut output: impl BufRead, seed: u64, count: usize) -> Outcome {
     }
     match next_line(&mut output)? {
         None => Ok(()),
-        Some(_) => Err((DIFFERENT, format!("the program printed more than {count} lines"))),
+        Some(_) => Err((DIFFERENT, "the program printed a line too many".to_string())),
     }
 }
 

@@ -46,15 +46,25 @@ pub fn fixed_list() -> Vec<Case> {
     out
 }
 
-/// The cases of one run, without end.
+/// Every op that cases have.
+pub const OPS: &str = "qplfwurdxceg";
+
+/// The cases of one run, without end, of some ops.
 pub struct Cases {
     fixed: std::vec::IntoIter<Case>,
     prng: Prng,
+    ops: String,
 }
 
 impl Cases {
     pub fn new(seed: u64) -> Cases {
-        Cases { fixed: fixed_list().into_iter(), prng: Prng::new(seed) }
+        Cases::of(seed, OPS)
+    }
+
+    /// At least one of `ops` is one of `OPS`.
+    pub fn of(seed: u64, ops: &str) -> Cases {
+        assert!(ops.chars().any(|op| OPS.contains(op)));
+        Cases { fixed: fixed_list().into_iter(), prng: Prng::new(seed), ops: ops.to_string() }
     }
 }
 
@@ -62,7 +72,12 @@ impl Iterator for Cases {
     type Item = Case;
 
     fn next(&mut self) -> Option<Case> {
-        let fixed = self.fixed.next();
-        Some(fixed.unwrap_or_else(|| random::case(&mut self.prng)))
+        loop {
+            let fixed = self.fixed.next();
+            let case = fixed.unwrap_or_else(|| random::case(&mut self.prng));
+            if self.ops.contains(char::from(case.op)) {
+                return Some(case);
+            }
+        }
     }
 }
