@@ -1,6 +1,7 @@
-// Runs the worked messages of document 01, and some that lie, through both readers, the names iterator and the front, and prints each
-// answer in full.
+// Runs the worked messages of document 01, and some that lie, through both readers, the names iterator, the front and the listing,
+// and prints each answer in full.
 mod fronts;
+mod listings;
 
 use display::replies;
 use display::requests;
@@ -17,6 +18,7 @@ fn main() {
     more_replies();
     taken_names::show_all();
     fronts::show_all();
+    listings::show_all();
 }
 
 fn short_requests() {

@@ -1,0 +1,90 @@
+-- From the lines that were added to the listing. Assumes nothing.
+use mathlib.Core.Path.{_≡_, refl, sym, ap, subst, _∙_}
+use mathlib.Core.List.{List, [], _∷_, _++_}
+use Prim.Native.Nat.{ℕ, _+_, _≤_, _<_}
+use native.Mathlib.Decide.{decLe}
+use native.Mathlib.Omega.{arith}
+use lib.Dec.{leb, eqb}
+use lib.ListN.{length, take, getD, length-take}
+use mir.Syntax.{w8}
+use mir.Val.{Fits}
+use borrow.Author.Tests.{le-leb, lt-leb}
+use Rattle.number.specs.BigEndian.{overwritten}
+use Rattle.method.specs.Methods.{Found, found, unknown as no-method, ofRequest, requestNumber}
+use Rattle.method.proofs.Table.{request-found}
+use Rattle.layout.specs.Table.{request, requestPlan, plan}
+use Rattle.layout.specs.Values.{Part, Value}
+use Rattle.layout.specs.Limits.{bufferTooSmall}
+use Rattle.layout.specs.Reading.{unknown, accepted, read}
+use Rattle.layout.specs.Parts.{fieldsOf}
+use Rattle.layout.specs.Writing.{stored, check, store}
+use Rattle.layout.proofs.Trace.{BodyHere, header-only, message-traced}
+use Rattle.field.specs.declared.Cursor.{Cursor}
+use Rattle.request_reader.specs.declared.RequestAnswer.{RequestAnswer}
+use Rattle.request_reader.specs.declared.RequestAnswer.the-variants.{Known, Unknown, Refused}
+use Rattle.request_reader.specs.Answers.{methodOf, answerOf}
+use Rattle.store.specs.declared.Written.{Written}
+use Rattle.store.specs.Stored.{Stored, left, place, refusal, roomAt, Put, toldOf, Ends, Wrote}
+use Rattle.store.proofs.Storing.{all-put}
+use Rattle.lines.specs.Lines.{ascii, decimal, text, Adds, AddsLine, AddsLines}
+use Rattle.lines.proofs.Adding.{put-adds, adds-then, lines-add, added}
+use Rattle.listing.specs.Listing.{listing, listed, longestListing}
+use Rattle.listing.specs.Rendered.{answerLines, Rendered}
+use Rattle.listing.proofs.Lengths.{listing-fits}
+
+-- a name, and the rest of the first line
+pub named : {l m n v w : List ℕ} {c d f : Cursor} → Put l c v m d → AddsLine m d (ascii " id" ∷ w ∷ []) n f → AddsLine l c (v ∷ ascii "id" ∷ w ∷ []) n f
+named p q = record { is = adds-then (put-adds p) (q .is) }
+
+-- ---- the answer's lines are the listing's
+
+unknown-plan : (f : Found) {m : List ℕ} {p q : ℕ} {vs : List (Value Part)} → BodyHere m (requestPlan f) p unknown vs q → f ≡ no-method
+unknown-plan no-method header-only = refl
+
+unknown-type : (m : List ℕ) (i t k : ℕ) (vs : List (Value Part)) → read request m ≡ accepted unknown i t vs k → ofRequest t ≡ no-method
+unfolding plan
+unknown-type m i t k vs e = unknown-plan (ofRequest t) (message-traced e .rest)
+
+pub answer-text : (m : List ℕ) (a : RequestAnswer) → answerOf a ≡ read request m → text (answerLines a (length m)) ≡ listing m
+unfolding listing fieldsOf
+answer-text m (Known i q k) e = rw (← e, request-found (methodOf q))
+answer-text m (Unknown i t k) e = rw (← e, unknown-type m i t k [] (sym e))
+answer-text m (Refused n p) e = rw (← e)
+
+-- ---- the buffer
+
+pub put-wrote : {l e n : List ℕ} {f : Cursor} {r : Written} → Put l (place 0) e n f → Ends f r → Wrote (check bufferTooSmall (leb (length e) (length l)) l (store e l)) n r
+unfolding overwritten roomAt
+put-wrote {l} {e} {n} {f} {r} p end = go (decLe (length e) (length l))
+  where
+    zero-plus : 0 + length e ≡ length e
+    zero-plus = omega arith
+
+    go : Dec (length e ≤ length l) → Wrote (check bufferTooSmall (leb (length e) (length l)) l (store e l)) n r
+    go (yes h) =
+        let s = all-put p refl (omega arith) in
+        rw (le-leb (length e) (length l) h)
+        (record { tells = end .is ∙ rw (s .1, zero-plus); leaves = s .0 ∙ rw zero-plus })
+    go (no h) =
+        let s : left n f ≡ left l (refusal bufferTooSmall) = p .is ∙ rw (lt-leb (0 + length e) (length l) (omega arith)) in
+        rw (lt-leb (length e) (length l) (omega arith))
+        (record { tells = end .is ∙ rw (ap (λ (x : Stored). x .next) s); leaves = ap (λ (x : Stored). x .buffer) s })
+
+pub rendered : (m : List ℕ) (a : RequestAnswer) {l n : List ℕ} {f : Cursor} → ((i : ℕ) → Fits w8 (getD m i 0)) → length l ≡ longestListing
+    → answerOf a ≡ read request m → AddsLines l (place 0) (answerLines a (length m)) n f → Rendered m n (f .at)
+rendered m a {l} {n} {f} by long e p =
+    let s : (f .at ≡ length (listing m)) × (take (length (listing m)) n ≡ listing m) =
+    added (subst (λ (x : List ℕ). Adds l (place 0) x n f) (answer-text m a e) (lines-add p)) (rw long (listing-fits m (λ i. by i .fits))) in
+    let t : take (f .at) n ≡ listing m = rw (s .0) (s .1) in
+    let z : f .at ≡ length (take (f .at) n) = s .0 ∙ ap length (sym t) in
+    record { front = t; counts = (omega (arith, z, length-take (f .at) n), z) }
+
+pub put-listed : (m : List ℕ) {l n t : List ℕ} {k : ℕ} {f : Cursor} {r : Written} → Rendered m t k → Put l (place 0) (take k t) n f → Ends f r → Wrote (listed m l) n r
+unfolding listed
+put-listed m d p end = rw (← (d .front)) (put-wrote p end)
+
+-- a buffer of the longest listing's size is never refused
+pub enough : (m l : List ℕ) {n : List ℕ} {r : Written} → ((i : ℕ) → Fits w8 (getD m i 0)) → Wrote (listed m l) n r → longestListing ≤ length l
+    → toldOf r ≡ stored (length (listing m))
+unfolding listed
+enough m l by w h = w .tells ∙ rw (le-leb (length (listing m)) (length l) (omega (arith, listing-fits m (λ i. by i .fits))))

@@ -1,0 +1,23 @@
+-- `listing::list_request` meets its contract. Assumes nothing.
+use borrow.Author.Needs.{needs}
+use Rattle.listing.proofs.Rendering.{put-listed, enough}
+use Rattle.listing.proofs.list_request.Statement.{statement}
+use Rattle.listing.proofs.list_request.Tie as tie
+
+returns : tie.Need-returns
+returns c =
+    let m = c .before .before .before .before .before .before .before .before .before .before .args .m .now in
+    let w = put-listed m (c .before .before .before .before .before .before .render .ensures) (c .before .before .before .put-all .ensures) (c .finish .ensures) in
+    (w, enough m (c .before .before .before .before .before .before .before .before .before .before .args .out .now) (c .before .before .before .before .before .before .before .before .before .shared-slice-known .given) w)
+
+pub list-request-spec : {M : Type 1} → statement M
+list-request-spec =
+    tie.close
+    (tie.spec
+    (λ c κs. search needs)
+    (λ c. search needs)
+    (λ c. search needs)
+    (λ c κs. search needs)
+    (λ c κs. search needs)
+    (λ c. search needs)
+    returns)

@@ -1,0 +1,11 @@
+-- `listing::put_refused` meets its contract. Assumes nothing.
+use borrow.Author.Needs.{needs}
+use Rattle.lines.specs.Lines.{more, none}
+use Rattle.listing.proofs.put_refused.Statement.{statement}
+use Rattle.listing.proofs.put_refused.Tie as tie
+
+returns : tie.Need-returns
+returns c = search (more, none)
+
+pub put-refused-spec : {M : Type 1} → statement M
+put-refused-spec = tie.close (tie.spec (λ c. search needs) (λ c. search needs) (λ c κs. search needs) (λ c. search needs) returns)

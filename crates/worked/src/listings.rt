@@ -1,0 +1,35 @@
+// Listings of requests.
+use display::lent;
+use display::print;
+use store::Written;
+
+pub fn show_all() {
+    show_numbers();
+    show_others();
+}
+
+fn show_numbers() {
+    show(b"\x00\x00\x00\x07\x01\x00\x00\x00\x02\x2f\x61\x04");
+    show(b"\x00\x00\x00\x07\x01\x00\x00\x00\x00\xff");
+    show(b"\x00\x00\x00\x01\x0a\x00\x00\x00\x01\x2f\x07\xff\xff\xff\xff\xff\xff\xff\xff\x0a");
+    show(
+        b"\x00\x00\x00\x01\x16\x00\x00\x00\x01\x2f\x00\x00\x00\x00\x00\x00\x00\x05\x00\x00\x00\x06\x00\x00\x00\x00\x00\x00\x00\x07\x00\x00\x00\x08\x00\x00\x00\x00\x00\x00\x00\x09",
+    );
+}
+
+fn show_others() {
+    show(b"\xff\xff\xff\xff\x17");
+    show(b"\x00\x00\x00\x23\x42\x00");
+    show(b"\x00\x00\x00\x05\x0f\x00\x00\x00\x01\x80");
+    show(b"");
+}
+
+fn show(m: &[u8]) {
+    let mut space = [0u8; 256];
+    let out: &mut [u8] = &mut space;
+    let written = listing::list_request(m, out);
+    print::put(b"listing:\n");
+    if let Written::Stored { len } = written {
+        print::put(lent::stored(out, len));
+    }
+}
