@@ -255,7 +255,7 @@ fn collect_names(m: &[u8], run: &mut [u8], lengths: &mut [u32]) -> Collected {
 }
 
 fn collect_next(m: &[u8], run: &mut [u8], lengths: &mut [u32], all: Collected) -> Collected {
-    let step = names::next(m, all.position);
+    let step = names_iterator::step_from(m, all.position);
     match step {
         Step::Name { next, .. } => {
             let name = names::name(m, step);

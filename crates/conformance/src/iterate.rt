@@ -17,7 +17,7 @@ struct Walk {
 pub fn show(line: &mut [u8], at: usize, m: &[u8]) -> usize {
     let walk = walk_names(line, at, m);
     let behind_count = print::show_from(line, walk.at, b" names=%:%", &[walk.count, walk.checksum]);
-    if is_end(m, walk.position) {
+    if is_end(m, walk.position) && has_no_name(m, walk.count) {
         return print::put(line, behind_count, b" end");
     }
     print::put(line, behind_count, b" again")
@@ -45,10 +45,10 @@ fn walk_names(line: &mut [u8], at: usize, m: &[u8]) -> Walk {
 }
 
 fn walk_on(line: &mut [u8], m: &[u8], walk: Walk) -> Walk {
-    let step = names::next(m, walk.position);
+    let step = names_iterator::step_from(m, walk.position);
     match step {
         Step::Name { run, next } => {
-            let checksum = print::hash(names::name(m, step));
+            let checksum = print::hash(name_of(m, step, walk.count));
             show_name(line, walk, run, checksum, next)
         }
         Step::End { position } => Walk {
@@ -59,6 +59,14 @@ fn walk_on(line: &mut [u8], m: &[u8], walk: Walk) -> Walk {
             is_ended: true,
         },
     }
+}
+
+// The first names are taken by their number, which opens the iterator anew; the others by the step.
+fn name_of<'a>(m: &'a [u8], step: Step, count: u64) -> &'a [u8] {
+    if count < 4 {
+        return names_iterator::nth_name(m, count as u32);
+    }
+    names::name(m, step)
 }
 
 // The count is far below the bound by which it is kept.
@@ -89,7 +97,7 @@ fn show_single(line: &mut [u8], at: usize, count: u64, run: Run, checksum: u64) 
 
 // Asked twice more, the iterator says both times that there is no name.
 fn is_end(m: &[u8], position: Position) -> bool {
-    let step = names::next(m, position);
+    let step = names_iterator::step_from(m, position);
     match step {
         Step::Name { .. } => false,
         Step::End { position } => has_no_next(m, position),
@@ -97,9 +105,14 @@ fn is_end(m: &[u8], position: Position) -> bool {
 }
 
 fn has_no_next(m: &[u8], position: Position) -> bool {
-    let step = names::next(m, position);
+    let step = names_iterator::step_from(m, position);
     match step {
         Step::Name { .. } => false,
         Step::End { .. } => true,
     }
+}
+
+// By its number there is no name either.
+fn has_no_name(m: &[u8], count: u64) -> bool {
+    names_iterator::nth_name(m, (count % 0x1_0000_0000) as u32).len() == 0
 }

@@ -1,2 +1,3 @@
 pub mod Replies
 pub mod Stepping
+pub mod Skipping

@@ -72,7 +72,7 @@ opened-calls {m} {n} o t = calls-steps t ∙ ap (steps n m) o ∙ opened-steps n
 
 -- ---- the end stays
 
-same-position : (v w : Position) → positionOf v ≡ positionOf w → v ≡ w
+pub same-position : (v w : Position) → positionOf v ≡ positionOf w → v ≡ w
 same-position v w e = ap (λ (p : layout.Position). record { at = p .at; left = p .left }) e
 
 pub end-stays : {m : List ℕ} {w v : Position} → Next m w (S.End v) → v ≡ w

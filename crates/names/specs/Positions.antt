@@ -1,4 +1,6 @@
 -- What positions and steps stand for.
+use Prim.Native.Nat.{ℕ, zero, suc}
+use mathlib.Core.List.{List}
 use lib.ListN.{length}
 use Rattle.layout.specs.Values.{Part}
 use Rattle.layout.specs.Reading.{Answer}
@@ -24,3 +26,13 @@ stepOf (S.End w) = layout.ended (positionOf w)
 abbrev pub nameOf : layout.Step → Part
 nameOf (layout.name x w) = x
 nameOf (layout.ended w) = nothing
+
+-- where a step leaves the iterator
+abbrev pub behind : layout.Step → layout.Position
+behind (layout.name x w) = w
+behind (layout.ended w) = w
+
+-- so many steps on
+abbrev pub skipped : ℕ → List ℕ → layout.Position → layout.Position
+skipped zero m w = w
+skipped (suc n) m w = skipped n m (behind (layout.step m w))

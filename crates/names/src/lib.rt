@@ -9,7 +9,7 @@ ghost use Rattle.layout.specs.Values.{signed};
 ghost use Rattle.layout.specs.Names.{namesAmong, namesOf, opened, step as step·at};
 ghost use Rattle.field.specs.Cursors.{shown};
 ghost use Rattle.reply_reader.specs.Answers.{answerOf, valuesOf};
-ghost use Rattle.names.specs.Positions.{openedBy, positionOf, stepOf, nameOf};
+ghost use Rattle.names.specs.Positions.{openedBy, positionOf, stepOf, nameOf, skipped};
 use field::Cursor;
 use field::Run;
 use reply_reader::Reply;
@@ -102,4 +102,29 @@ pub fn name<'a>(m: &'a [u8], step: Step) -> &'a [u8]
         Step::Name { run, .. } => field::bytes_of(m, run),
         Step::End { .. } => &m[0..0],
     }
+}
+
+// The bytes of the next name, as a part of the message; none where there is no name.
+pub fn next_name<'a>(m: &'a [u8], position: Position) -> &'a [u8]
+    ensures { λ s. ⌜ now s ≡ shown (now (m .entry)) (nameOf (step·at (now (m .entry)) (positionOf position))) ⌝ }
+{
+    let step = next(m, position);
+    name(m, step)
+}
+
+// The position so many names further on. Past the last name it stays, and no more steps are made.
+pub fn skip(m: &[u8], position: Position, count: u32) -> Position
+    ensures { λ r. ⌜ positionOf r ≡ skipped count (now (m .entry)) (positionOf position) ⌝ }
+{
+    let mut here = position;
+    let mut left = count;
+    while 0 < left {
+        let step = next(m, here);
+        match step {
+            Step::Name { next, .. } => here = next,
+            Step::End { position: end } => return end,
+        }
+        left -= 1;
+    }
+    here
 }

@@ -1,0 +1,3 @@
+pub mod Looping
+mod Held
+mod Taking
