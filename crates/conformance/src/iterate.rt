@@ -4,8 +4,9 @@ use field::Run;
 use names::Position;
 use names::Step;
 
-// How far the names are shown: the line's `at`, the iterator's position, the names so far, and their checksum.
-struct Walk {
+// How far the names are taken: the line's `at`, the iterator's position, the names so far and their checksum, and whether the iterator has
+// said that there is no more.
+struct Taken {
     at: usize,
     position: Position,
     count: u64,
@@ -15,18 +16,23 @@ struct Walk {
 
 // Shows the first 200 names singly, then the count and the checksum of all, and whether the iterator stays at its end.
 pub fn show(line: &mut [u8], at: usize, m: &[u8]) -> usize {
-    let walk = walk_names(line, at, m);
-    let behind_count = print::show_from(line, walk.at, b" names=%:%", &[walk.count, walk.checksum]);
-    if is_end(m, walk.position) && has_no_name(m, walk.count) {
+    let taken = take_names(line, at, m);
+    let behind_count = print::show_from(
+        line,
+        taken.at,
+        b" names=%:%",
+        &[taken.count, taken.checksum],
+    );
+    if is_end(m, taken.position) && shows_no_bytes(m, taken.count) {
         return print::put(line, behind_count, b" end");
     }
     print::put(line, behind_count, b" again")
 }
 
 // A name takes at least 4 bytes of the message, so fewer turns than it has bytes pass all of them.
-fn walk_names(line: &mut [u8], at: usize, m: &[u8]) -> Walk {
+fn take_names(line: &mut [u8], at: usize, m: &[u8]) -> Taken {
     let position = names::open(m);
-    let mut walk = Walk {
+    let mut taken = Taken {
         at,
         position,
         count: 0,
@@ -35,33 +41,34 @@ fn walk_names(line: &mut [u8], at: usize, m: &[u8]) -> Walk {
     };
     let mut turns = m.len();
     while turns > 0 {
-        walk = walk_on(line, m, walk);
-        if walk.is_ended {
-            return walk;
+        taken = take_next(line, m, taken);
+        if taken.is_ended {
+            return taken;
         }
         turns -= 1;
     }
-    walk
+    taken
 }
 
-fn walk_on(line: &mut [u8], m: &[u8], walk: Walk) -> Walk {
-    let step = names_iterator::step_from(m, walk.position);
+fn take_next(line: &mut [u8], m: &[u8], taken: Taken) -> Taken {
+    let step = names_iterator::step_from(m, taken.position);
     match step {
         Step::Name { run, next } => {
-            let checksum = print::hash(name_of(m, step, walk.count));
-            show_name(line, walk, run, checksum, next)
+            let checksum = print::hash(name_of(m, step, taken.count));
+            show_name(line, taken, run, checksum, next)
         }
-        Step::End { position } => Walk {
-            at: walk.at,
+        Step::End { position } => Taken {
+            at: taken.at,
             position,
-            count: walk.count,
-            checksum: walk.checksum,
+            count: taken.count,
+            checksum: taken.checksum,
             is_ended: true,
         },
     }
 }
 
-// The first names are taken by their number, which opens the iterator anew; the others by the step.
+// The bytes of the first names are asked for by number, which opens an iterator and passes over the names before. Only of the first, because
+// each such call reads the message again.
 fn name_of<'a>(m: &'a [u8], step: Step, count: u64) -> &'a [u8] {
     if count < 4 {
         return names_iterator::nth_name(m, count as u32);
@@ -69,15 +76,15 @@ fn name_of<'a>(m: &'a [u8], step: Step, count: u64) -> &'a [u8] {
     names::name(m, step)
 }
 
-// The count is far below the bound by which it is kept.
-fn show_name(line: &mut [u8], walk: Walk, run: Run, checksum: u64, next: Position) -> Walk {
-    let at = show_single(line, walk.at, walk.count, run, checksum);
-    let with_start = print::hash_number(walk.checksum, run.start as u64);
+// The remainder changes nothing, since a message has far fewer names. It keeps the sum in range.
+fn show_name(line: &mut [u8], taken: Taken, run: Run, checksum: u64, next: Position) -> Taken {
+    let at = show_single(line, taken.at, taken.count, run, checksum);
+    let with_start = print::hash_number(taken.checksum, run.start as u64);
     let with_len = print::hash_number(with_start, run.len as u64);
-    Walk {
+    Taken {
         at,
         position: next,
-        count: walk.count % 0x1_0000_0000 + 1,
+        count: taken.count % 0x1_0000_0000 + 1,
         checksum: print::hash_number(with_len, checksum),
         is_ended: false,
     }
@@ -112,7 +119,7 @@ fn has_no_next(m: &[u8], position: Position) -> bool {
     }
 }
 
-// By its number there is no name either.
-fn has_no_name(m: &[u8], count: u64) -> bool {
+// Behind the last name `nth_name` shows no bytes.
+fn shows_no_bytes(m: &[u8], count: u64) -> bool {
     names_iterator::nth_name(m, (count % 0x1_0000_0000) as u32).len() == 0
 }

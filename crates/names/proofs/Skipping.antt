@@ -1,21 +1,22 @@
 -- Names passed over, and the name that is met then. Assumes nothing.
-use mathlib.Core.Path.{_≡_, refl, sym, ap, _∙_}
+use mathlib.Core.Path.{_≡_, refl, sym, ap, subst, _∙_}
 use mathlib.Core.List.{List, [], _∷_}
 use Prim.Native.Nat.{ℕ, zero, suc, _-_, _<_}
 use native.Mathlib.Omega.{arith}
 use lib.ListN.{take, getD}
 use Rattle.layout.specs.Parts.{nothing}
 use Rattle.layout.specs.Table.{reply}
-use Rattle.layout.specs.Values.{Part}
+use Rattle.layout.specs.Values.{Part, bytesIn}
 use Rattle.layout.specs.Reading.{read}
 use Rattle.layout.specs.Names as layout
 use Rattle.layout.specs.Names.{namesOf, opened, name, ended, step, steps, gather}
 use Rattle.layout.proofs.Iterating.{opened-steps, ended-stays}
 use Rattle.field.specs.declared.Run.{Run}
+use Rattle.field.specs.Cursors.{shown}
 use Rattle.names.specs.declared.Position.{Position}
 use Rattle.names.specs.declared.Step.the-variants as S
-use Rattle.names.specs.Positions.{positionOf, nameOf, behind, skipped}
-use Rattle.names.proofs.Stepping.{Next}
+use Rattle.names.specs.Positions.{positionOf, nameOf, behind, skipped, nthName}
+use Rattle.names.proofs.Stepping.{Next, step-inside}
 
 -- ---- one step of those to make, or none
 
@@ -64,5 +65,9 @@ getD-take (suc n) [] d = refl
 getD-take zero (x ∷ xs) d = refl
 getD-take (suc n) (x ∷ xs) d = getD-take n xs d
 
-pub nth-name : (n : ℕ) (m : List ℕ) → nameOf (step m (skipped n m (opened m))) ≡ getD (namesOf (read reply m)) n nothing
+pub nth-name : (n : ℕ) (m : List ℕ) → nameOf (step m (skipped n m (opened m))) ≡ nthName n m
 nth-name n m = skipped-name n m (opened m) ∙ ap (λ (xs : List Part). getD xs n nothing) (opened-steps (suc n) m) ∙ getD-take n (namesOf (read reply m)) nothing
+
+-- so it lies inside the message
+pub nth-inside : (n : ℕ) (m : List ℕ) → shown m (nthName n m) ≡ bytesIn m (nthName n m)
+nth-inside n m = subst (λ (x : Part). shown m x ≡ bytesIn m x) (nth-name n m) (step-inside m (skipped n m (opened m)))

@@ -6,12 +6,13 @@ use Prim.Native.Nat.{ℕ, zero, suc, _+_, _-_, _<_}
 use native.Mathlib.Omega.{arith}
 use lib.Dec.{eqb, leb}
 use lib.ListN.{length, take}
-use borrow.Author.Tests.{eq-eqb, ne-eqb}
+use borrow.Author.Tests.{eq-eqb, ne-eqb, le-leb}
 use Rattle.layout.specs.Kinds.{bytes}
 use Rattle.layout.specs.Limits.{truncated}
 use Rattle.layout.specs.Table.{reply}
 use Rattle.layout.specs.Values.{Part, part, Value, run, bytesIn}
 use Rattle.layout.specs.Reading.{Outcome, got, fail, followed, numAt, runAt, bytesAt, anyBytes, read}
+use Rattle.layout.specs.Parts.{nothing}
 use Rattle.layout.specs.Names as layout
 use Rattle.layout.specs.Names.{namesOf, position, opened, name, ended, stepped, stepBy, step, steps}
 use Rattle.layout.proofs.Tests.{apart}
@@ -22,7 +23,7 @@ use Rattle.field.specs.Cursors.{outcome, Took, partOf, shown}
 use Rattle.names.specs.declared.Position.{Position}
 use Rattle.names.specs.declared.Step.{Step}
 use Rattle.names.specs.declared.Step.the-variants as S
-use Rattle.names.specs.Positions.{positionOf, stepOf}
+use Rattle.names.specs.Positions.{positionOf, stepOf, nameOf}
 
 -- ---- the step, by what was read at its place
 
@@ -103,14 +104,25 @@ bytes-inside : (m : List ℕ) (o : Outcome ℕ) {x : Part} {q : ℕ} → followe
 bytes-inside m (got n p) e = run-inside m p n e
 bytes-inside m (fail n p) e = let z : _≡_ {A = ℕ} 0 1 = cc in apart z
 
-pub name-inside : {m : List ℕ} {w v : Position} {x : Run} → Next m w (S.Name x v) → shown m (partOf x) ≡ bytesIn m (partOf x)
-unfolding step shown
-name-inside {m} {w} {v} {x} e = rw (go (w .left) (e .is))
-  where
-    from : (l : ℕ) (o : Outcome Part) → bytesAt m (w .at) ≡ o → name (partOf x) (positionOf v) ≡ stepped (position (w .at) (suc l)) l o → Inside m (partOf x)
-    from l (got y q) f e = let s : y ≡ partOf x = cc in subst (Inside m) s (bytes-inside m (numAt 4 m (w .at)) f)
-    from l (fail n q) f e = let z : _≡_ {A = ℕ} 0 1 = cc in apart z
+-- the bytes that are shown of a part are all its bytes
+abbrev Whole : List ℕ → Part → Type 0
+Whole m x = shown m x ≡ bytesIn m x
 
-    go : (l : ℕ) → name (partOf x) (positionOf v) ≡ stepBy m (w .at) l → Inside m (partOf x)
-    go zero e = let z : _≡_ {A = ℕ} 0 1 = cc in apart z
-    go (suc l) e = from l (bytesAt m (w .at)) refl e
+none-whole : (m : List ℕ) → Whole m nothing
+unfolding shown
+none-whole m = rw (le-leb 0 (length m) (omega arith))
+
+pub step-inside : (m : List ℕ) (w : layout.Position) → Whole m (nameOf (step m w))
+unfolding step shown
+step-inside m w = go (w .left)
+  where
+    from : (l : ℕ) (o : Outcome Part) → bytesAt m (w .at) ≡ o → Whole m (nameOf (stepped (position (w .at) (suc l)) l o))
+    from l (got x q) e = rw (bytes-inside m (numAt 4 m (w .at)) e)
+    from l (fail n q) e = none-whole m
+
+    go : (l : ℕ) → Whole m (nameOf (stepBy m (w .at) l))
+    go zero = none-whole m
+    go (suc l) = from l (bytesAt m (w .at)) refl
+
+pub name-inside : {m : List ℕ} {w v : Position} {x : Run} → Next m w (S.Name x v) → shown m (partOf x) ≡ bytesIn m (partOf x)
+name-inside {m} {w} {v} {x} e = subst (λ (s : layout.Step). Whole m (nameOf s)) (sym (e .is)) (step-inside m (positionOf w))

@@ -1,9 +1,10 @@
 -- What positions and steps stand for.
 use Prim.Native.Nat.{ℕ, zero, suc}
 use mathlib.Core.List.{List}
-use lib.ListN.{length}
+use lib.ListN.{length, getD}
 use Rattle.layout.specs.Values.{Part}
-use Rattle.layout.specs.Reading.{Answer}
+use Rattle.layout.specs.Reading.{Answer, read}
+use Rattle.layout.specs.Table.{reply}
 use Rattle.layout.specs.Parts.{nothing}
 use Rattle.layout.specs.Names as layout
 use Rattle.field.specs.Cursors.{partOf}
@@ -36,3 +37,7 @@ behind (layout.ended w) = w
 abbrev pub skipped : ℕ → List ℕ → layout.Position → layout.Position
 skipped zero m w = w
 skipped (suc n) m w = skipped n m (behind (layout.step m w))
+
+-- the n-th name of a message, counted from 0; behind the last the empty part
+abbrev pub nthName : ℕ → List ℕ → Part
+nthName n m = getD (layout.namesOf (read reply m)) n nothing

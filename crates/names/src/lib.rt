@@ -1,5 +1,6 @@
-// The names iterator of a readdir reply (document 01: walker). A position is a value, and each step gives the next. A name is a part
-// of the message; its text was checked when the message was read, and no step looks at it again.
+// The names of a readdir reply, read at positions. A position is a value, and each step gives the next. A name is a part of the message;
+// its text was checked when the message was read, and no step looks at it again. The iterator of document 01 (walker), a struct over
+// these functions, is crate `names_iterator`.
 ghost use mathlib.Core.Path.{_≡_};
 ghost use mathlib.Core.List.{List, _∷_};
 ghost use Prim.Native.Nat.{ℕ};
@@ -14,6 +15,9 @@ use field::Cursor;
 use field::Run;
 use reply_reader::Reply;
 use reply_reader::ReplyAnswer;
+
+// Behind header, result and count.
+const FIRST_NAME: usize = 13;
 
 // Where the next name begins, and how many are left.
 pub struct Position {
@@ -35,12 +39,12 @@ pub fn open(m: &[u8]) -> Position
     open_answer(answer)
 }
 
-// The start on the message that was answered so, which is not read again. With the reader's answer this is `open`.
+// The start on the message whose answer this is. The message is not read again. With the reader's answer this is `open`.
 pub fn open_answer(answer: ReplyAnswer) -> Position
     ensures { λ r. ⌜ ((m : List ℕ) → positionOf r ≡ openedBy (answerOf m answer)) ⌝ }
 {
     Position {
-        at: 13,
+        at: FIRST_NAME,
         left: count_of(answer),
     }
 }

@@ -1,4 +1,4 @@
--- A loop over the iterator, as a caller meets it by the promises of `open`, `step`, `name` and `skip`: it gives exactly the names of the
+-- A loop over the iterator, as a caller meets it by the promises of `open`, `step`, `next_name` and `skip`: it gives exactly the names of the
 -- reply, in their order, and then the end for ever. The laws of crate `names` say so of positions; here they are taken to the struct.
 -- Assumes nothing.
 use mathlib.Core.Path.{_≡_, refl, sym, ap, subst, _∙_}
@@ -9,26 +9,21 @@ use denote.Ref.{RefT, now}
 use Rattle.layout.specs.Table.{reply}
 use Rattle.layout.specs.Values.{Part, bytesIn}
 use Rattle.layout.specs.Reading.{read}
-use Rattle.layout.specs.Names.{namesOf, opened, step}
+use Rattle.layout.specs.Names.{namesOf}
 use Rattle.field.specs.declared.Run.{Run}
 use Rattle.field.specs.Cursors.{partOf, shown}
 use Rattle.names.specs.declared.Position.{Position}
 use Rattle.names.specs.declared.Step.{Step}
 use Rattle.names.specs.declared.Step.the-variants as S
-use Rattle.names.specs.Positions.{positionOf, stepOf, nameOf, behind, skipped}
+use Rattle.names.specs.Positions.{positionOf, stepOf, nameOf, behind}
 use Rattle.names.proofs.Stepping as law
 use Rattle.names_iterator.specs.declared.Iter.{Iter}
+use Rattle.names_iterator.specs.Iterating.{Opened, stepOn, Further}
 
--- what `open` promises of the iterator that it makes of the message m
-pub record Opened (m : RefT (List ℕ)) (it : Iter) : Type 0 where
-  pub on : it .reply ≡ m
-  pub from : positionOf (it .position) ≡ opened (now m)
-
--- a turn of the loop: what `step` promises of its answer, and `skip` of one name of the iterator that it makes
+-- a turn of the loop: what `step` promises of its answer s, and `skip(1)` of the iterator that it makes
 pub record Turn (it : Iter) (s : Step) (it′ : Iter) : Type 0 where
-  pub stepped : stepOf s ≡ step (now (it .reply)) (positionOf (it .position))
-  pub same : it′ .reply ≡ it .reply
-  pub further : positionOf (it′ .position) ≡ skipped 1 (now (it .reply)) (positionOf (it .position))
+  pub stepped : stepOf s ≡ stepOn it
+  pub further : Further 1 it it′
 
 -- so many turns met these names
 pub data Turns : ℕ → Iter → List Part → Type 0 where
@@ -42,12 +37,12 @@ called t = record { is = t .stepped }
 
 -- and `skip` leaves the iterator where that step says
 moves : {it it′ : Iter} {s : Step} → Turn it s it′ → positionOf (it′ .position) ≡ behind (stepOf s)
-moves t = t .further ∙ ap behind (sym (t .stepped))
+moves t = t .further .1 ∙ ap behind (sym (t .stepped))
 
 after : {n : ℕ} {it it′ : Iter} {s : Step} (w : Position) {xs : List Part} → Turn it s it′ → behind (stepOf s) ≡ positionOf w
     → law.Calls (now (it′ .reply)) n (it′ .position) xs → law.Calls (now (it .reply)) n w xs
 after {n} {it} {it′} w {xs} t e c =
-    subst (λ (v : Position). law.Calls (now (it .reply)) n v xs) (law.same-position (it′ .position) w (moves t ∙ e)) (subst (λ (m : RefT (List ℕ)). law.Calls (now m) n (it′ .position) xs) (t .same) c)
+    subst (λ (v : Position). law.Calls (now (it .reply)) n v xs) (law.same-position (it′ .position) w (moves t ∙ e)) (subst (λ (m : RefT (List ℕ)). law.Calls (now m) n (it′ .position) xs) (t .further .0) c)
 
 turns-calls : {n : ℕ} {it : Iter} {xs : List Part} → Turns n it xs → law.Calls (now (it .reply)) n (it .position) xs
 turns-calls no-turn = law.no-call
@@ -56,15 +51,21 @@ turns-calls (an-end {w = w} t ts) = law.an-end (called t) (after w t refl (turns
 
 -- n turns from `open` meet the first n names of the reply, in order: all of them, and then no more
 pub opened-turns : {m : RefT (List ℕ)} {n : ℕ} {it : Iter} {xs : List Part} → Opened m it → Turns n it xs → xs ≡ take n (namesOf (read reply (now m)))
-opened-turns {m} {n} {it} {xs} o t = law.opened-calls (o .from) (subst (λ (s : RefT (List ℕ)). law.Calls (now s) n (it .position) xs) (o .on) (turns-calls t))
+opened-turns {m} {n} {it} {xs} o t = law.opened-calls (o .1) (subst (λ (s : RefT (List ℕ)). law.Calls (now s) n (it .position) xs) (o .0) (turns-calls t))
 
--- at the end the iterator stays as it is, so the next turn is at the end too
+-- at the end the iterator stays as it is
 pub end-stays : {it it′ : Iter} {w : Position} → Turn it (S.End w) it′ → it′ ≡ it
 end-stays {it} {it′} {w} t =
     let e : it′ .position ≡ it .position = law.same-position (it′ .position) w (moves t) ∙ law.end-stays (called t) in
-    λ i. record { reply = t .same i; position = e i }
+    λ i. record { reply = t .further .0 i; position = e i }
 
--- what `name` promises is, where there is a name, its bytes in the reply
-pub name-bytes : {it it′ : Iter} {x : Run} {w : Position} {b : List ℕ} → Turn it (S.Name x w) it′
-    → b ≡ shown (now (it .reply)) (nameOf (step (now (it .reply)) (positionOf (it .position)))) → b ≡ bytesIn (now (it .reply)) (partOf x)
+-- and every later turn says so again
+pub end-again : {it it′ it″ : Iter} {w : Position} {s : Step} → Turn it (S.End w) it′ → Turn it′ s it″ → s ≡ S.End w
+end-again {it} {it′} {w = w} {s = s} t u =
+    law.end-again
+    (called t)
+    (subst (λ (v : Position). law.Next (now (it .reply)) v s) (law.same-position (it′ .position) w (moves t)) (subst (λ (m : RefT (List ℕ)). law.Next (now m) (it′ .position) s) (t .further .0) (called u)))
+
+-- what `next_name` promises is, where there is a name, its bytes in the reply
+pub name-bytes : {it it′ : Iter} {x : Run} {w : Position} {b : List ℕ} → Turn it (S.Name x w) it′ → b ≡ shown (now (it .reply)) (nameOf (stepOn it)) → b ≡ bytesIn (now (it .reply)) (partOf x)
 name-bytes {it} t e = e ∙ ap (λ s. shown (now (it .reply)) (nameOf s)) (sym (t .stepped)) ∙ law.name-inside (called t)

@@ -1,1 +1,1 @@
-pub mod Nth
+pub mod Iterating

@@ -1,10 +1,10 @@
 // The names iterator (document 01: walker): a struct that holds the reply and the position of the next name. It is Copy; to go on is
-// to make the next one. Each function takes it apart and leaves the work to a function of crate `names`.
+// to make the next one. Each method takes it apart and leaves the work to a function of crate `names`.
 ghost use mathlib.Core.Path.{_≡_};
-ghost use Rattle.layout.specs.Names.{opened, step as step·at};
+ghost use Rattle.layout.specs.Names.{step as step·at};
 ghost use Rattle.field.specs.Cursors.{shown};
-ghost use Rattle.names.specs.Positions.{positionOf, stepOf, nameOf, skipped};
-ghost use Rattle.names_iterator.specs.Nth.{nthName};
+ghost use Rattle.names.specs.Positions.{positionOf, stepOf, nameOf, nthName};
+ghost use Rattle.names_iterator.specs.Iterating.{Opened, stepOn, Further};
 use names::Position;
 use names::Step;
 
@@ -15,7 +15,7 @@ pub struct Iter<'a> {
 
 // The iterator on any message, which is read once. Only an accepted readdir reply that is a success has names.
 pub fn open<'a>(reply: &'a [u8]) -> Iter<'a>
-    ensures { λ r. ⌜ (r .reply ≡ reply .entry) × (positionOf (r .position) ≡ opened (now (reply .entry))) ⌝ }
+    ensures { λ r. ⌜ Opened (reply .entry) r ⌝ }
 {
     Iter {
         reply,
@@ -24,23 +24,24 @@ pub fn open<'a>(reply: &'a [u8]) -> Iter<'a>
 }
 
 impl<'a> Iter<'a> {
-    // Whether there is a next name, where it lies and what is behind it. Past the last it says that there is none.
+    // Whether there is a next name, where it lies, and the position behind it. Past the last it says that there is none. The iterator
+    // itself stays: `skip(1)` gives the one behind the name.
     pub fn step(self) -> Step
-        ensures { λ s. ⌜ stepOf s ≡ step·at (now (self .entry .reply)) (positionOf (self .entry .position)) ⌝ }
+        ensures { λ s. ⌜ stepOf s ≡ stepOn (self .entry) ⌝ }
     {
         names::next(self.reply, self.position)
     }
 
-    // The next name, as a part of the reply; empty where there is none.
-    pub fn name(self) -> &'a [u8]
-        ensures { λ s. ⌜ now s ≡ shown (now (self .entry .reply)) (nameOf (step·at (now (self .entry .reply)) (positionOf (self .entry .position)))) ⌝ }
+    // The bytes of the next name, as a part of the reply. An empty name and the end look the same; `step` tells them apart.
+    pub fn next_name(self) -> &'a [u8]
+        ensures { λ s. ⌜ now s ≡ shown (now (self .entry .reply)) (nameOf (stepOn (self .entry))) ⌝ }
     {
         names::next_name(self.reply, self.position)
     }
 
     // The iterator so many names further on. Past the last it stays.
     pub fn skip(self, count: u32) -> Iter<'a>
-        ensures { λ r. ⌜ (r .reply ≡ self .entry .reply) × (positionOf (r .position) ≡ skipped count (now (self .entry .reply)) (positionOf (self .entry .position))) ⌝ }
+        ensures { λ r. ⌜ Further count (self .entry) r ⌝ }
     {
         Iter {
             reply: self.reply,
@@ -49,16 +50,17 @@ impl<'a> Iter<'a> {
     }
 }
 
-// One step from a position that the caller keeps. A caller of this holds no struct, so its proof has no walk.
+// One step from a position that the caller keeps. A caller of this holds no struct, so the toolchain covers it.
 pub fn step_from(reply: &[u8], position: Position) -> Step
     ensures { λ s. ⌜ stepOf s ≡ step·at (now (reply .entry)) (positionOf position) ⌝ }
 {
     Iter { reply, position }.step()
 }
 
-// A reply's name by its number, counted from 0; empty behind the last.
+// The bytes of a name by its number, counted from 0. An empty name and a number behind the last look the same; the reader's count tells
+// them apart. The reply is read whole at each call.
 pub fn nth_name<'a>(reply: &'a [u8], n: u32) -> &'a [u8]
     ensures { λ s. ⌜ now s ≡ shown (now (reply .entry)) (nthName n (now (reply .entry))) ⌝ }
 {
-    open(reply).skip(n).name()
+    open(reply).skip(n).next_name()
 }

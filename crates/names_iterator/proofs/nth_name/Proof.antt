@@ -1,5 +1,5 @@
 -- `names_iterator::nth_name` meets its contract: a walk of its MIR, by hand. `open` makes the struct, `Iter::skip` the one further on, and
--- `Iter::name` takes its name: each is known by its contract alone. That the name so met is the n-th is a law of crate `names`, cited here.
+-- `Iter::next_name` takes its name: each is known by its contract alone. That the name so met is the n-th is a law of crate `names`, cited here.
 -- Assumes nothing.
 use mathlib.Core.Path.{_≡_, refl, ap, _∙_}
 use mathlib.Core.List.{List, [], _∷_}
@@ -37,10 +37,10 @@ use denote.Exit.{yes}
 use denote.Triple.Clauses.{ensured, lasts}
 use Rattle.layout.specs.Names as layout
 use Rattle.field.specs.Cursors.{shown}
-use Rattle.names.specs.Positions.{positionOf, nameOf, skipped}
+use Rattle.names.specs.Positions.{positionOf, nameOf, skipped, nthName}
 use Rattle.names.proofs.Skipping as law
-use Rattle.names_iterator.specs.Nth.{nthName}
 use Rattle.names_iterator.specs.declared.Iter.{Iter}
+use Rattle.names_iterator.specs.Iterating.{Opened, stepOn, Further}
 use Rattle.names_iterator.proofs.Iter as T
 use Rattle.names_iterator.proofs.Iter.Laws as T′
 use Rattle.names_iterator.proofs.open as opens
@@ -51,10 +51,10 @@ use Rattle.names_iterator.proofs.Iter.skip as skip
 use Rattle.names_iterator.proofs.Iter.skip.Symbol as skip-def
 use Rattle.names_iterator.proofs.Iter.skip.Symbol.{name as #names-iterator·Iter·skip}
 use Rattle.names_iterator.proofs.Iter.skip.Met as skip-thm
-use Rattle.names_iterator.proofs.Iter.name as name
-use Rattle.names_iterator.proofs.Iter.name.Symbol as name-def
-use Rattle.names_iterator.proofs.Iter.name.Symbol.{name as #names-iterator·Iter·name}
-use Rattle.names_iterator.proofs.Iter.name.Met as name-thm
+use Rattle.names_iterator.proofs.Iter.next_name as next-name
+use Rattle.names_iterator.proofs.Iter.next_name.Symbol as next-name-def
+use Rattle.names_iterator.proofs.Iter.next_name.Symbol.{name as #names-iterator·Iter·next-name}
+use Rattle.names_iterator.proofs.Iter.next_name.Met as next-name-thm
 use Rattle.names_iterator.proofs.Held.{B, sliceOf, returned}
 use Rattle.names_iterator.proofs.nth_name.Key.{name as #names-iterator·nth-name}
 use Rattle.names_iterator.proofs.nth_name as nth
@@ -73,7 +73,7 @@ module _ {M : Type 1} (𝓤 : URA M) (H : Heap 𝓤) (A : Atoms 𝓤) (mem : Mem
   Skips = tripleOf 𝓤 H A skip.signature (skip.spec 𝓤 H A mem run)
 
   abbrev Takes : Contract 𝓤
-  Takes = tripleOf 𝓤 H A name.signature (name.spec 𝓤 H A mem run)
+  Takes = tripleOf 𝓤 H A next-name.signature (next-name.spec 𝓤 H A mem run)
 
 module _ {M : Type 1} (𝓤 : URA M) (H : Heap 𝓤) (A : Atoms 𝓤) (W : Given 𝓤 H A) (mem : Memory → SProp 𝓤) (run : Routine → Fun 𝓤) (κ : Lft) (q : Share) (s : RefT (List ℕ)) (n : ℕ) (ok : n < 2 ^ 32) where
   -- the machine value that s has
@@ -87,14 +87,14 @@ module _ {M : Type 1} (𝓤 : URA M) (H : Heap 𝓤) (A : Atoms 𝓤) (W : Given
   abbrev αᵉ : NamedLft
   αᵉ = record { mir = erased; lft = κ }
 
-  abbrev Part : RattleType
-  Part = ShrSlice (named 0) κ u8
+  abbrev Slice : RattleType
+  Slice = ShrSlice (named 0) κ u8
 
   abbrev Post : Val → SProp 𝓤
   Post = walkOf 𝓤 H A nth.ended stayed (nth.clauses 𝓤 H A mem run) .post (((κ, tt), (q, tt), tt, (s, (n, tt)), at), tt)
 
   abbrev Own : Fml
-  Own = Part .own s (v ∷ [])
+  Own = Slice .own s (v ∷ [])
 
   -- the call of `open`: what it is passed, what it asks, and what is known of its result
   abbrev to-open : Opens 𝓤 H A mem run .Ghost
@@ -102,18 +102,15 @@ module _ {M : Type 1} (𝓤 : URA M) (H : Heap 𝓤) (A : Atoms 𝓤) (W : Given
 
   goes-open : ent 𝓤 (onEntry 𝓤 H A nth.signature (κ, tt) (q, tt) (s, (n, tt)) at) (sep 𝓤 (Opens 𝓤 H A mem run .pre to-open) (sem 𝓤 H A Own))
   goes-open =
-      qed W ((‵ (flft κ q) ⊛ ‵ ftrue) ∷ ‵ (owns (Part ∷ u32 ∷ []) (s, (n, tt)) at) ∷ []) ∵
+      qed W ((‵ (flft κ q) ⊛ ‵ ftrue) ∷ ‵ (owns (Slice ∷ u32 ∷ []) (s, (n, tt)) at) ∷ []) ∵
       move ! (1 ∷ []) $ fsplit ! $ move ! (1 ∷ []) $ drop ! $ use1 W (‵ Own ⊛ ‵ Own) (shr-slice-copy 𝓤 H A W (named 0) κ u8 .twice s (v ∷ [])) $ split ! $ nothing ! $ move ! (1 ∷ 0 ∷ []) $ fjoin ! $ move ! (2 ∷ 0 ∷ []) $
-      use2 W (raw (Opens 𝓤 H A mem run .pre to-open)) (qed W ((‵ (flft κ q) ⊛ ‵ ftrue) ∷ ‵ (owns (Part ∷ []) (s, tt) (v ∷ [], tt)) ∷ []) ∵ join ! $ frame ! $ done !) $ frame ! $ done !
-
-  abbrev Opened : Iter → Type 0
-  Opened r = (r .reply ≡ s) × (positionOf (r .position) ≡ layout.opened (now s))
+      use2 W (raw (Opens 𝓤 H A mem run .pre to-open)) (qed W ((‵ (flft κ q) ⊛ ‵ ftrue) ∷ ‵ (owns (Slice ∷ []) (s, tt) (v ∷ [], tt)) ∷ []) ∵ join ! $ frame ! $ done !) $ frame ! $ done !
 
   abbrev Said-open : Iter → SProp 𝓤
   Said-open = ensured 𝓤 H A opens.ended (opens.clauses 𝓤 H A mem run) (κ, tt) (s, tt) tt
 
-  said-open : (r : Iter) → ent 𝓤 (Said-open r) (fact 𝓤 (Opened r))
-  said-open r = exE 𝓤 _ (λ ws. snd∗ 𝓤 (sem 𝓤 H A (lasts opens.ended (κ, tt) (s, tt) ws)) (fact 𝓤 (Opened r)))
+  said-open : (r : Iter) → ent 𝓤 (Said-open r) (fact 𝓤 (Opened s r))
+  said-open r = exE 𝓤 _ (λ ws. snd∗ 𝓤 (sem 𝓤 H A (lasts opens.ended (κ, tt) (s, tt) ws)) (fact 𝓤 (Opened s r)))
 
   -- the call of `skip`, at the struct r with the machine value u
   module _ (r : Iter) (u : Val) where
@@ -125,16 +122,13 @@ module _ {M : Type 1} (𝓤 : URA M) (H : Heap 𝓤) (A : Atoms 𝓤) (W : Given
         qed W (‵ (B (κ, tt) .own r (u ∷ [])) ∷ (‵ (flft κ q) ⊛ ‵ ftrue) ∷ []) ∵
         nothing ! $ owned ! u32 (Is u32) (uint-makes 𝓤 H A W w32) n _ (refl, ok) $ fjoin ! $ move ! (1 ∷ 0 ∷ []) $ fjoin ! $ move ! (1 ∷ 0 ∷ []) $ join ! $ frame ! $ done !
 
-    abbrev Further : Iter → Type 0
-    Further t = (t .reply ≡ r .reply) × (positionOf (t .position) ≡ skipped n (now (r .reply)) (positionOf (r .position)))
-
     abbrev Said-skip : Iter → SProp 𝓤
     Said-skip = ensured 𝓤 H A skip.ended (skip.clauses 𝓤 H A mem run) (κ, tt) (r, (n, tt)) tt
 
-    said-skip : (t : Iter) → ent 𝓤 (Said-skip t) (fact 𝓤 (Further t))
-    said-skip t = exE 𝓤 _ (λ ws. snd∗ 𝓤 (sem 𝓤 H A (lasts skip.ended (κ, tt) (r, (n, tt)) ws)) (fact 𝓤 (Further t)))
+    said-skip : (t : Iter) → ent 𝓤 (Said-skip t) (fact 𝓤 (Further n r t))
+    said-skip t = exE 𝓤 _ (λ ws. snd∗ 𝓤 (sem 𝓤 H A (lasts skip.ended (κ, tt) (r, (n, tt)) ws)) (fact 𝓤 (Further n r t)))
 
-  -- the call of `name`, at the struct r with the machine value u
+  -- the call of `next_name`, at the struct r with the machine value u
   module _ (r : Iter) (u : Val) where
     abbrev to-name : Takes 𝓤 H A mem run .Ghost
     to-name = (((κ, tt), (q, tt), tt, (r, tt), (u ∷ [], tt)), tt)
@@ -143,57 +137,57 @@ module _ {M : Type 1} (𝓤 : URA M) (H : Heap 𝓤) (A : Atoms 𝓤) (W : Given
     goes-name = qed W (‵ (B (κ, tt) .own r (u ∷ [])) ∷ (‵ (flft κ q) ⊛ ‵ ftrue) ∷ []) ∵ nothing ! $ move ! (1 ∷ 0 ∷ []) $ fjoin ! $ move ! (1 ∷ 0 ∷ []) $ join ! $ frame ! $ done !
 
     abbrev Taken : RefT (List ℕ) → Type 0
-    Taken t = now t ≡ shown (now (r .reply)) (nameOf (layout.step (now (r .reply)) (positionOf (r .position))))
+    Taken t = now t ≡ shown (now (r .reply)) (nameOf (stepOn r))
 
     abbrev Said-name : RefT (List ℕ) → SProp 𝓤
-    Said-name = ensured 𝓤 H A name.ended (name.clauses 𝓤 H A mem run) (κ, tt) (r, tt) tt
+    Said-name = ensured 𝓤 H A next-name.ended (next-name.clauses 𝓤 H A mem run) (κ, tt) (r, tt) tt
 
     said-name : (t : RefT (List ℕ)) → ent 𝓤 (Said-name t) (fact 𝓤 (Taken t))
-    said-name t = exE 𝓤 _ (λ ws. snd∗ 𝓤 (sem 𝓤 H A (lasts name.ended (κ, tt) (r, tt) ws)) (fact 𝓤 (Taken t)))
+    said-name t = exE 𝓤 _ (λ ws. snd∗ 𝓤 (sem 𝓤 H A (lasts next-name.ended (κ, tt) (r, tt) ws)) (fact 𝓤 (Taken t)))
 
   -- the three together, by the law
   abbrev Nth : RefT (List ℕ) → Type 0
   Nth t = now t ≡ shown (now s) (nthName n (now s))
 
-  the-nth : (r : Iter) (u : Val) (r′ : Iter) (u′ : Val) (t : RefT (List ℕ)) → Opened r → Further r u r′ → Taken r′ u′ t → Nth t
+  the-nth : (r : Iter) (u : Val) (r′ : Iter) (u′ : Val) (t : RefT (List ℕ)) → Opened s r → Further n r r′ → Taken r′ u′ t → Nth t
   the-nth r u r′ u′ t e e′ e″ =
       e″ ∙ ap (λ (x : RefT (List ℕ)). shown (now x) (nameOf (layout.step (now x) (positionOf (r′ .position))))) (e′ .0 ∙ e .0)
       ∙ ap (λ (w : layout.Position). shown (now s) (nameOf (layout.step (now s) w))) (e′ .1 ∙ ap (λ (x : RefT (List ℕ)). skipped n (now x) (positionOf (r .position))) (e .0) ∙ ap (skipped n (now s)) (e .1))
       ∙ ap (shown (now s)) (law.nth-name n (now s))
 
-  exits : (t : RefT (List ℕ)) (u : Val) → Nth t → ent 𝓤 (⋆ 𝓤 H A (‵ (Part .own t (u ∷ [])) ∷ (‵ (flft κ q) ⊛ ‵ ftrue) ∷ ‵ Own ∷ [])) (Post u)
+  exits : (t : RefT (List ℕ)) (u : Val) → Nth t → ent 𝓤 (⋆ 𝓤 H A (‵ (Slice .own t (u ∷ [])) ∷ (‵ (flft κ q) ⊛ ‵ ftrue) ∷ ‵ Own ∷ [])) (Post u)
   exits t u e =
-      qed W (‵ (Part .own t (u ∷ [])) ∷ (‵ (flft κ q) ⊛ ‵ ftrue) ∷ ‵ Own ∷ []) ∵
+      qed W (‵ (Slice .own t (u ∷ [])) ∷ (‵ (flft κ q) ⊛ ‵ ftrue) ∷ ‵ Own ∷ []) ∵
       suffices ! _ (ends-at 𝓤 H A nth.ended stayed (nth.clauses 𝓤 H A mem run) W (((κ, tt), (q, tt), tt, (s, (n, tt)), at), tt) u t (tt, (tt, tt)) (tt, (tt, tt))) $ says ! e $
       move ! (1 ∷ []) $ frame ! $ nothing ! $ owned ! u32 (Is u32) (uint-makes 𝓤 H A W w32) n _ (refl, ok) $ fjoin ! $ move ! (2 ∷ 0 ∷ []) $ fjoin ! $ frame ! $ done !
 
-  module _ (C : Calls 𝓤 H) (Λ : Loops 𝓤 H) (fm : FmC 𝓤 H (W .laws) C) (known-open : Triple 𝓤 (C #names-iterator·open) (Opens 𝓤 H A mem run)) (known-skip : Triple 𝓤 (C #names-iterator·Iter·skip) (Skips 𝓤 H A mem run)) (known-name : Triple 𝓤 (C #names-iterator·Iter·name) (Takes 𝓤 H A mem run)) where
-    walk : Is Part s (v ∷ []) → ent 𝓤 (onEntry 𝓤 H A nth.signature (κ, tt) (q, tt) (s, (n, tt)) at) (WpFn 𝓤 H C Λ code.function (v ∷ vint w32 n ∷ []) Post)
+  module _ (C : Calls 𝓤 H) (Λ : Loops 𝓤 H) (fm : FmC 𝓤 H (W .laws) C) (known-open : Triple 𝓤 (C #names-iterator·open) (Opens 𝓤 H A mem run)) (known-skip : Triple 𝓤 (C #names-iterator·Iter·skip) (Skips 𝓤 H A mem run)) (known-name : Triple 𝓤 (C #names-iterator·Iter·next-name) (Takes 𝓤 H A mem run)) where
+    walk : Is Slice s (v ∷ []) → ent 𝓤 (onEntry 𝓤 H A nth.signature (κ, tt) (q, tt) (s, (n, tt)) at) (WpFn 𝓤 H C Λ code.function (v ∷ vint w32 n ∷ []) Post)
     walk is-s =
         qed W (raw (onEntry 𝓤 H A nth.signature (κ, tt) (q, tt) (s, (n, tt)) at) ∷ []) ∵ enter ! C Λ code.function (v ∷ vint w32 n ∷ []) _ $
         alloc1 ! (λ l₀. alloc1 ! (λ l₁. alloc1 ! (λ l₂. alloc1 ! (λ l₃. alloc1 ! (λ l₄. alloc0 ! $ params1 ! $
         pass1 ! (init ! 6 refl (shr-slice-lawful 𝓤 H A W (named 0) κ u8 .typed s (v ∷ []) is-s .0)) $ pass1 ! (init ! 4 refl (tt, record { fits = ok })) $ pass0 ! $
         move ! (10 ∷ []) $ use1 W (raw (Opens 𝓤 H A mem run .pre to-open) ⊛ ‵ Own) goes-open $ split ! $
-        calls-at ! fm (Opens 𝓤 H A mem run) known-open to-open (and-then ! (load ! (from ! (stop !)) (look ! 8 refl)) (no-more !)) (λ u. returned ! tt κ q (B (κ, tt)) u Said-open Opened said-open (id⊢ 𝓤 _) (λ r e is.
+        calls-at ! fm (Opens 𝓤 H A mem run) known-open to-open (and-then ! (load ! (from ! (stop !)) (look ! 8 refl)) (no-more !)) (λ u. returned ! tt κ q (B (κ, tt)) u Said-open (Opened s) said-open (id⊢ 𝓤 _) (λ r e is.
         -- [what the struct owns; the token; what s owns; room for _4; …; room for _3; …; _2; …; _1; …; room for _0; …]
         land ! (from ! (stop !)) (init ! 3 refl (LL.lawful (T.the-type αᵉ) (T′.the-laws αᵉ) 𝓤 H A W .typed r _ is .0)) $ use2 W (raw (Skips 𝓤 H A mem run .pre (to-skip r u))) (goes-skip r u) $
-        calls-at ! fm (Skips 𝓤 H A mem run) known-skip (to-skip r u) (and-then ! (load ! (from ! (stop !)) (look ! 2 refl)) (and-then ! (load ! (from ! (stop !)) (look ! 6 refl)) (no-more !))) (λ u′. returned ! tt κ q (B (κ, tt)) u′ (Said-skip r u) (Further r u) (said-skip r u) (id⊢ 𝓤 _) (λ r′ e′ is′.
+        calls-at ! fm (Skips 𝓤 H A mem run) known-skip (to-skip r u) (and-then ! (load ! (from ! (stop !)) (look ! 2 refl)) (and-then ! (load ! (from ! (stop !)) (look ! 6 refl)) (no-more !))) (λ u′. returned ! tt κ q (B (κ, tt)) u′ (Said-skip r u) (Further n r) (said-skip r u) (id⊢ 𝓤 _) (λ r′ e′ is′.
         -- [what the second struct owns; the token; what s owns; _4; …; room for _3; …; _2; …; _1; …; room for _0; …]
         land ! (from ! (stop !)) (init ! 5 refl (LL.lawful (T.the-type αᵉ) (T′.the-laws αᵉ) 𝓤 H A W .typed r′ _ is′ .0)) $ use2 W (raw (Takes 𝓤 H A mem run .pre (to-name r′ u′))) (goes-name r′ u′) $
-        calls-at ! fm (Takes 𝓤 H A mem run) known-name (to-name r′ u′) (and-then ! (load ! (from ! (stop !)) (look ! 4 refl)) (no-more !)) (λ u″. returned ! tt κ q Part u″ (Said-name r′ u′) (Taken r′ u′) (said-name r′ u′) (id⊢ 𝓤 _) (λ t e″ is″.
+        calls-at ! fm (Takes 𝓤 H A mem run) known-name (to-name r′ u′) (and-then ! (load ! (from ! (stop !)) (look ! 4 refl)) (no-more !)) (λ u″. returned ! tt κ q Slice u″ (Said-name r′ u′) (Taken r′ u′) (said-name r′ u′) (id⊢ 𝓤 _) (λ t e″ is″.
         -- [the result; the token; what s owns; _4; …; _3; …; _2; …; _1; …; room for _0; …]
         land ! (from ! (stop !)) (init ! 11 refl (shr-slice-lawful 𝓤 H A W (named 0) κ u8 .typed t _ is″ .0)) $
         returns ! (look ! 11 refl) $ forget ! 3 refl $ forget ! 5 refl $ forget ! 7 refl $ forget ! 9 refl $ forget ! 11 refl $
         move ! (11 ∷ 12 ∷ []) $ free1 ! $ move ! (9 ∷ 10 ∷ []) $ free1 ! $ move ! (7 ∷ 8 ∷ []) $ free1 ! $ move ! (5 ∷ 6 ∷ []) $ free1 ! $ move ! (3 ∷ 4 ∷ []) $ free1 ! $ free0 ! $ by ! (exits t u″ (the-nth r u r′ u′ t e e′ e″)))))))))))))
 
 module _ {M : Type 1} (𝓤 : URA M) (H : Heap 𝓤) (A : Atoms 𝓤) (W : Given 𝓤 H A) (mem : Memory → SProp 𝓤) (run : Routine → Fun 𝓤) where
-  nth-walks : (C : Calls 𝓤 H) (Λ : Loops 𝓤 H) → FmC 𝓤 H (W .laws) C → Triple 𝓤 (C #names-iterator·open) (Opens 𝓤 H A mem run) → Triple 𝓤 (C #names-iterator·Iter·skip) (Skips 𝓤 H A mem run) → Triple 𝓤 (C #names-iterator·Iter·name) (Takes 𝓤 H A mem run)
+  nth-walks : (C : Calls 𝓤 H) (Λ : Loops 𝓤 H) → FmC 𝓤 H (W .laws) C → Triple 𝓤 (C #names-iterator·open) (Opens 𝓤 H A mem run) → Triple 𝓤 (C #names-iterator·Iter·skip) (Skips 𝓤 H A mem run) → Triple 𝓤 (C #names-iterator·Iter·next-name) (Takes 𝓤 H A mem run)
       → Walks 𝓤 H A nth.ended stayed (WpFn 𝓤 H C Λ code.function) (nth.clauses 𝓤 H A mem run)
   nth-walks C Λ fm known-open known-skip known-name = walked 𝓤 H A nth.ended stayed (nth.clauses 𝓤 H A mem run) (WpFn 𝓤 H C Λ code.function) (λ κs. (slice-vals, (uint-vals w32, tt))) (λ κs. (shr-slice-tells (named 0) (κs .0) u8, (uint-tells w32, tt)))
       (λ κs qs bounds a g are. via 𝓤 _ (fst∗ 𝓤 _ (emp 𝓤)) (walk 𝓤 H A W mem run (κs .0) (qs .0) (a .0) (a .1 .0) (are .1 .0 .1) C Λ fm known-open known-skip known-name (are .0)))
 
 nth-meets : {M : Type 1} (𝓤 : URA M) (H : Heap 𝓤) (A : Atoms 𝓤) (W : Given 𝓤 H A) (mem : Memory → SProp 𝓤) (run : Routine → Fun 𝓤) (𝓣 : Tables 𝓤 H)
-    → Triple 𝓤 (𝓣 .C #names-iterator·open) (Opens 𝓤 H A mem run) → Triple 𝓤 (𝓣 .C #names-iterator·Iter·skip) (Skips 𝓤 H A mem run) → Triple 𝓤 (𝓣 .C #names-iterator·Iter·name) (Takes 𝓤 H A mem run)
+    → Triple 𝓤 (𝓣 .C #names-iterator·open) (Opens 𝓤 H A mem run) → Triple 𝓤 (𝓣 .C #names-iterator·Iter·skip) (Skips 𝓤 H A mem run) → Triple 𝓤 (𝓣 .C #names-iterator·Iter·next-name) (Takes 𝓤 H A mem run)
     → Meets 𝓤 H A nth.signature (WpFn 𝓤 H (𝓣 .C) (𝓣 .Λ) code.function) (nth.spec 𝓤 H A mem run)
 nth-meets 𝓤 H A W mem run 𝓣 known-open known-skip known-name = walk-meets 𝓤 H A nth.ended stayed W (goes-none-slice 𝓤 H A W 1 (0 ∷ []) tt (plain (λ _. u8)) yes, (goes-none 𝓤 H A W 1 (λ _. u32) yes (λ κs x f. refl), tt)) (nth.clauses 𝓤 H A mem run) (WpFn 𝓤 H (𝓣 .C) (𝓣 .Λ) code.function) (WpFn-mono 𝓤 H (W .laws) 𝓣 code.function)
     (nth-walks 𝓤 H A W mem run (𝓣 .C) (𝓣 .Λ) (fmOf 𝓤 H (W .laws) 𝓣) known-open known-skip known-name)
@@ -206,4 +200,4 @@ nth-name-spec 𝓤 H 𝓜 𝓖 𝓡 =
     (nth-meets 𝓤 H (𝓖 .A) (givenOf 𝓤 H 𝓜 𝓖) (𝓜 .mem) (𝓡 .run) (tablesOf 𝓤 H 𝓜 (tables 𝓤 H 𝓜 𝓡 code.env))
     (cited 𝓤 H (Opens 𝓤 H (𝓖 .A) (𝓜 .mem) (𝓡 .run)) 𝓜 𝓡 code.env #names-iterator·open opens-def.routine code.calls-names-iterator·open (opens-thm.met 𝓤 H 𝓜 𝓖 𝓡))
     (cited 𝓤 H (Skips 𝓤 H (𝓖 .A) (𝓜 .mem) (𝓡 .run)) 𝓜 𝓡 code.env #names-iterator·Iter·skip skip-def.routine code.calls-names-iterator·Iter·skip (skip-thm.met 𝓤 H 𝓜 𝓖 𝓡))
-    (cited 𝓤 H (Takes 𝓤 H (𝓖 .A) (𝓜 .mem) (𝓡 .run)) 𝓜 𝓡 code.env #names-iterator·Iter·name name-def.routine code.calls-names-iterator·Iter·name (name-thm.met 𝓤 H 𝓜 𝓖 𝓡)))
+    (cited 𝓤 H (Takes 𝓤 H (𝓖 .A) (𝓜 .mem) (𝓡 .run)) 𝓜 𝓡 code.env #names-iterator·Iter·next-name next-name-def.routine code.calls-names-iterator·Iter·next-name (next-name-thm.met 𝓤 H 𝓜 𝓖 𝓡)))

@@ -71,8 +71,8 @@ module _ {M : Type 1} (𝓤 : URA M) (H : Heap 𝓤) (A : Atoms 𝓤) (W : Given
   abbrev at : Vals skip.signature (κ, tt)
   at = (mach ∷ [], (vint w32 n ∷ [], tt))
 
-  abbrev Further : Position → Type 0
-  Further p = positionOf p ≡ skipped n (now (d .reply)) (positionOf (d .position))
+  abbrev Reached : Position → Type 0
+  Reached p = positionOf p ≡ skipped n (now (d .reply)) (positionOf (d .position))
 
   abbrev Post : Val → SProp 𝓤
   Post = walkOf 𝓤 H A skip.ended stayed (skip.clauses 𝓤 H A mem run) .post (((κ, tt), (q, tt), tt, (d, (n, tt)), at), tt)
@@ -97,10 +97,10 @@ module _ {M : Type 1} (𝓤 : URA M) (H : Heap 𝓤) (A : Atoms 𝓤) (W : Given
   abbrev Said : Position → SProp 𝓤
   Said = ensured 𝓤 H A position.ended (position.clauses 𝓤 H A mem run) (κ, tt) (d .reply, (d .position, (n, tt))) tt
 
-  said : (p : Position) → ent 𝓤 (Said p) (fact 𝓤 (Further p))
-  said p = exE 𝓤 _ (λ ws. snd∗ 𝓤 (sem 𝓤 H A (lasts position.ended (κ, tt) (d .reply, (d .position, (n, tt))) ws)) (fact 𝓤 (Further p)))
+  said : (p : Position) → ent 𝓤 (Said p) (fact 𝓤 (Reached p))
+  said p = exE 𝓤 _ (λ ws. snd∗ 𝓤 (sem 𝓤 H A (lasts position.ended (κ, tt) (d .reply, (d .position, (n, tt))) ws)) (fact 𝓤 (Reached p)))
 
-  exits : (p : Position) → Further p → ent 𝓤 (⋆ 𝓤 H A (‵ (P.the-row .own p (P′.lowered p ∷ [])) ∷ (‵ (flft κ q) ⊛ ‵ ftrue) ∷ ‵ (Own κ d) ∷ [])) (Post (T′.lowered (made p)))
+  exits : (p : Position) → Reached p → ent 𝓤 (⋆ 𝓤 H A (‵ (P.the-row .own p (P′.lowered p ∷ [])) ∷ (‵ (flft κ q) ⊛ ‵ ftrue) ∷ ‵ (Own κ d) ∷ [])) (Post (T′.lowered (made p)))
   exits p e =
       qed W (‵ (P.the-row .own p (P′.lowered p ∷ [])) ∷ (‵ (flft κ q) ⊛ ‵ ftrue) ∷ ‵ (Own κ d) ∷ []) ∵
       suffices ! _ (ends-at 𝓤 H A skip.ended stayed (skip.clauses 𝓤 H A mem run) W (((κ, tt), (q, tt), tt, (d, (n, tt)), at), tt) (T′.lowered (made p)) (made p) (tt, (tt, tt)) (tt, (tt, tt))) $ says ! (refl, e) $
@@ -119,7 +119,7 @@ module _ {M : Type 1} (𝓤 : URA M) (H : Heap 𝓤) (A : Atoms 𝓤) (W : Given
         assigns ! (of-opd ! (load ! (from ! (fld ! refl (stop !))) (look-in ! 10 (sub ! 1 refl (whole !))))) (from ! (stop !)) (init ! 0 refl (tt, wt .1 .1 .0)) $
         move ! (14 ∷ []) $ use1 W (raw (Skips 𝓤 H A mem run .pre to) ⊛ ‵ (Own κ d)) goes $ split ! $
         calls-at ! fm (Skips 𝓤 H A mem run) known to (and-then ! (load ! (from ! (stop !)) (look ! 4 refl)) (and-then ! (load ! (from ! (stop !)) (look ! 2 refl)) (and-then ! (load ! (from ! (stop !)) (look ! 10 refl)) (no-more !)))) (λ u.
-        returned ! tt κ q P.the-row u Said Further said (id⊢ 𝓤 _) (λ p e is.
+        returned ! tt κ q P.the-row u Said Reached said (id⊢ 𝓤 _) (λ p e is.
         -- [what the position owns; the token; what the struct owns; _6; …; _5; …; room for _4; …; _3; …; _2; …; _1; …; room for _0; …]
         land ! (from ! (stop !)) (init ! 7 refl (LL.lawful P.the-type P′.the-laws 𝓤 H A W .typed p _ is .0)) $
         rewrite ! 7 (λ (w : Val). ‵ (fat fullShare P′.mir l₄ 0 w)) (ap only (spelled {p = p} is)) refl $ rewrite ! 0 (λ (ws : List Val). ‵ (P.the-row .own p ws)) (spelled {p = p} is) refl $

@@ -16,7 +16,6 @@ use contract.Monad.{Fun, fact}
 use contract.Running.{givenOf, tables, tablesOf}
 use types.Kit.{Given, ‵, _⊛_, ⋆, _$_, _∵_, !, qed, move, join, fjoin, suffices, frame, done}
 use sound.WpLaws.{FmC, fmOf, WpFn-mono}
-use denote.Ref.{now}
 use denote.Enum.Laws as EL
 use denote.Steps.{nothing}
 use denote.Struct.Laws as LL
@@ -27,8 +26,7 @@ use denote.Triple.Table.{entered, cited}
 use denote.Triple.Walked.{says, Stays, stay-none, walkOf, goes-none, Walks, ends-at, walked, walk-meets}
 use denote.Exit.{yes}
 use denote.Triple.Clauses.{ensured, lasts}
-use Rattle.layout.specs.Names as layout
-use Rattle.names.specs.Positions.{positionOf, stepOf}
+use Rattle.names.specs.Positions.{stepOf}
 use Rattle.names.specs.declared.Step.{Step}
 use Rattle.names.proofs.Step as S
 use Rattle.names.proofs.Step.Laws as S′
@@ -38,6 +36,7 @@ use Rattle.names.proofs.next.Symbol as next-def
 use Rattle.names.proofs.next.Symbol.{name as #names·next}
 use Rattle.names.proofs.next.Met as next-thm
 use Rattle.names_iterator.specs.declared.Iter.{Iter}
+use Rattle.names_iterator.specs.Iterating.{stepOn}
 use Rattle.names_iterator.proofs.Iter.Laws as T′
 use Rattle.names_iterator.proofs.Held.{B, D, L, sliceOf, Own, Fields}
 use Rattle.names_iterator.proofs.Taking.{takes}
@@ -59,7 +58,7 @@ module _ {M : Type 1} (𝓤 : URA M) (H : Heap 𝓤) (A : Atoms 𝓤) (W : Given
   mach = T′.lowered d
 
   abbrev Found : Step → Type 0
-  Found s = stepOf s ≡ layout.step (now (d .reply)) (positionOf (d .position))
+  Found s = stepOf s ≡ stepOn d
 
   abbrev Post : Val → SProp 𝓤
   Post = walkOf 𝓤 H A step.ended stayed (step.clauses 𝓤 H A mem run) .post (((κ, tt), (q, tt), tt, (d, tt), (mach ∷ [], tt)), tt)

@@ -1,4 +1,4 @@
--- `names_iterator::Iter::name` meets its contract: a walk of its MIR, by hand. The struct is taken apart, and `names::next_name` is called
+-- `names_iterator::Iter::next_name` meets its contract: a walk of its MIR, by hand. The struct is taken apart, and `names::next_name` is called
 -- on the reply and the position. What it returns is a part of the reply, at the reply's own lifetime. Assumes nothing.
 use mathlib.Core.Path.{_≡_, refl}
 use mathlib.Core.List.{List, [], _∷_}
@@ -30,24 +30,24 @@ use denote.Triple.Table.{entered, cited}
 use denote.Triple.Walked.{says, Stays, stay-none, walkOf, goes-none, Walks, ends-at, walked, walk-meets}
 use denote.Exit.{yes}
 use denote.Triple.Clauses.{ensured, lasts}
-use Rattle.layout.specs.Names as layout
 use Rattle.field.specs.Cursors.{shown}
-use Rattle.names.specs.Positions.{positionOf, nameOf}
+use Rattle.names.specs.Positions.{nameOf}
 use Rattle.names.proofs.Position.Laws as P′
 use Rattle.names.proofs.next_name as next
 use Rattle.names.proofs.next_name.Symbol as next-def
 use Rattle.names.proofs.next_name.Symbol.{name as #names·next-name}
 use Rattle.names.proofs.next_name.Met as next-thm
 use Rattle.names_iterator.specs.declared.Iter.{Iter}
+use Rattle.names_iterator.specs.Iterating.{stepOn}
 use Rattle.names_iterator.proofs.Iter.Laws as T′
 use Rattle.names_iterator.proofs.Held.{B, D, L, sliceOf, Own, Fields}
 use Rattle.names_iterator.proofs.Taking.{takes}
-use Rattle.names_iterator.proofs.Iter.name.Key.{name as #names-iterator·name}
-use Rattle.names_iterator.proofs.Iter.name as name
-use Rattle.names_iterator.proofs.Iter.name.Statement as stated
-use Rattle.names_iterator.proofs.Iter.name.Code as code
+use Rattle.names_iterator.proofs.Iter.next_name.Key.{name as #names-iterator·next-name}
+use Rattle.names_iterator.proofs.Iter.next_name as next-name
+use Rattle.names_iterator.proofs.Iter.next_name.Statement as stated
+use Rattle.names_iterator.proofs.Iter.next_name.Code as code
 
-abbrev stayed : Stays (name.ended .signature .params) (name.ended .kept)
+abbrev stayed : Stays (next-name.ended .signature .params) (next-name.ended .kept)
 stayed = (stay-none B yes, tt)
 
 module _ {M : Type 1} (𝓤 : URA M) (H : Heap 𝓤) (A : Atoms 𝓤) (mem : Memory → SProp 𝓤) (run : Routine → Fun 𝓤) where
@@ -60,14 +60,14 @@ module _ {M : Type 1} (𝓤 : URA M) (H : Heap 𝓤) (A : Atoms 𝓤) (W : Given
   mach = T′.lowered d
 
   -- the result's type
-  abbrev Part : RattleType
-  Part = ShrSlice (named 0) κ u8
+  abbrev Slice : RattleType
+  Slice = ShrSlice (named 0) κ u8
 
   abbrev Found : RefT (List ℕ) → Type 0
-  Found s = now s ≡ shown (now (d .reply)) (nameOf (layout.step (now (d .reply)) (positionOf (d .position))))
+  Found s = now s ≡ shown (now (d .reply)) (nameOf (stepOn d))
 
   abbrev Post : Val → SProp 𝓤
-  Post = walkOf 𝓤 H A name.ended stayed (name.clauses 𝓤 H A mem run) .post (((κ, tt), (q, tt), tt, (d, tt), (mach ∷ [], tt)), tt)
+  Post = walkOf 𝓤 H A next-name.ended stayed (next-name.clauses 𝓤 H A mem run) .post (((κ, tt), (q, tt), tt, (d, tt), (mach ∷ [], tt)), tt)
 
   -- the call: what it is passed, what it asks, and what is known of its result
   abbrev to : Next 𝓤 H A mem run .Ghost
@@ -82,32 +82,32 @@ module _ {M : Type 1} (𝓤 : URA M) (H : Heap 𝓤) (A : Atoms 𝓤) (W : Given
   said : (s : RefT (List ℕ)) → ent 𝓤 (Said s) (fact 𝓤 (Found s))
   said s = exE 𝓤 _ (λ ws. snd∗ 𝓤 (sem 𝓤 H A (lasts next.ended (κ, tt) (d .reply, (d .position, tt)) ws)) (fact 𝓤 (Found s)))
 
-  exits : (s : RefT (List ℕ)) (u : Val) → Found s → ent 𝓤 (⋆ 𝓤 H A (‵ (Part .own s (u ∷ [])) ∷ (‵ (flft κ q) ⊛ ‵ ftrue) ∷ ‵ (Own κ d) ∷ [])) (Post u)
+  exits : (s : RefT (List ℕ)) (u : Val) → Found s → ent 𝓤 (⋆ 𝓤 H A (‵ (Slice .own s (u ∷ [])) ∷ (‵ (flft κ q) ⊛ ‵ ftrue) ∷ ‵ (Own κ d) ∷ [])) (Post u)
   exits s u e =
-      qed W (‵ (Part .own s (u ∷ [])) ∷ (‵ (flft κ q) ⊛ ‵ ftrue) ∷ ‵ (Own κ d) ∷ []) ∵
-      suffices ! _ (ends-at 𝓤 H A name.ended stayed (name.clauses 𝓤 H A mem run) W (((κ, tt), (q, tt), tt, (d, tt), (mach ∷ [], tt)), tt) u s (tt, tt) (tt, tt)) $ says ! e $
+      qed W (‵ (Slice .own s (u ∷ [])) ∷ (‵ (flft κ q) ⊛ ‵ ftrue) ∷ ‵ (Own κ d) ∷ []) ∵
+      suffices ! _ (ends-at 𝓤 H A next-name.ended stayed (next-name.clauses 𝓤 H A mem run) W (((κ, tt), (q, tt), tt, (d, tt), (mach ∷ [], tt)), tt) u s (tt, tt) (tt, tt)) $ says ! e $
       move ! (1 ∷ []) $ frame ! $ nothing ! $ move ! (2 ∷ 0 ∷ []) $ fjoin ! $ frame ! $ done !
 
   module _ (C : Calls 𝓤 H) (Λ : Loops 𝓤 H) (fm : FmC 𝓤 H (W .laws) C) (known : Triple 𝓤 (C #names·next-name) (Next 𝓤 H A mem run)) where
-    walk : Holds (hasTy (T′.mir (named 0)) mach) × WT mach → ent 𝓤 (onEntry 𝓤 H A name.signature (κ, tt) (q, tt) (d, tt) (mach ∷ [], tt)) (WpFn 𝓤 H C Λ code.function (mach ∷ []) Post)
-    walk wt = takes 𝓤 H A W κ q d Part (sliceTy (tyRef (named 0) imm (tyInt w8))) C Λ #names·next-name fm Said Found asked (known to) (λ u. id⊢ 𝓤 _) said (λ s u is. shr-slice-lawful 𝓤 H A W (named 0) κ u8 .typed s (u ∷ []) is .0) exits wt
+    walk : Holds (hasTy (T′.mir (named 0)) mach) × WT mach → ent 𝓤 (onEntry 𝓤 H A next-name.signature (κ, tt) (q, tt) (d, tt) (mach ∷ [], tt)) (WpFn 𝓤 H C Λ code.function (mach ∷ []) Post)
+    walk wt = takes 𝓤 H A W κ q d Slice (sliceTy (tyRef (named 0) imm (tyInt w8))) C Λ #names·next-name fm Said Found asked (known to) (λ u. id⊢ 𝓤 _) said (λ s u is. shr-slice-lawful 𝓤 H A W (named 0) κ u8 .typed s (u ∷ []) is .0) exits wt
 
 module _ {M : Type 1} (𝓤 : URA M) (H : Heap 𝓤) (A : Atoms 𝓤) (W : Given 𝓤 H A) (mem : Memory → SProp 𝓤) (run : Routine → Fun 𝓤) where
-  name-walks : (C : Calls 𝓤 H) (Λ : Loops 𝓤 H) → FmC 𝓤 H (W .laws) C → Triple 𝓤 (C #names·next-name) (Next 𝓤 H A mem run)
-      → Walks 𝓤 H A name.ended stayed (WpFn 𝓤 H C Λ code.function) (name.clauses 𝓤 H A mem run)
-  name-walks C Λ fm known = walked 𝓤 H A name.ended stayed (name.clauses 𝓤 H A mem run) (WpFn 𝓤 H C Λ code.function) (λ κs. (LL.vals (D κs) (L κs), tt)) (λ κs. (LL.tells (D κs) (L κs), tt))
+  next-name-walks : (C : Calls 𝓤 H) (Λ : Loops 𝓤 H) → FmC 𝓤 H (W .laws) C → Triple 𝓤 (C #names·next-name) (Next 𝓤 H A mem run)
+      → Walks 𝓤 H A next-name.ended stayed (WpFn 𝓤 H C Λ code.function) (next-name.clauses 𝓤 H A mem run)
+  next-name-walks C Λ fm known = walked 𝓤 H A next-name.ended stayed (next-name.clauses 𝓤 H A mem run) (WpFn 𝓤 H C Λ code.function) (λ κs. (LL.vals (D κs) (L κs), tt)) (λ κs. (LL.tells (D κs) (L κs), tt))
       (λ κs qs bounds a g are. via 𝓤 _ (fst∗ 𝓤 _ (emp 𝓤)) (walk 𝓤 H A W mem run (κs .0) (qs .0) (a .0) C Λ fm known (LL.lawful (D κs) (L κs) 𝓤 H A W .typed (a .0) _ (are .0) .0)))
 
-name-meets : {M : Type 1} (𝓤 : URA M) (H : Heap 𝓤) (A : Atoms 𝓤) (W : Given 𝓤 H A) (mem : Memory → SProp 𝓤) (run : Routine → Fun 𝓤) (𝓣 : Tables 𝓤 H)
+next-name-meets : {M : Type 1} (𝓤 : URA M) (H : Heap 𝓤) (A : Atoms 𝓤) (W : Given 𝓤 H A) (mem : Memory → SProp 𝓤) (run : Routine → Fun 𝓤) (𝓣 : Tables 𝓤 H)
     → Triple 𝓤 (𝓣 .C #names·next-name) (Next 𝓤 H A mem run)
-    → Meets 𝓤 H A name.signature (WpFn 𝓤 H (𝓣 .C) (𝓣 .Λ) code.function) (name.spec 𝓤 H A mem run)
-name-meets 𝓤 H A W mem run 𝓣 known = walk-meets 𝓤 H A name.ended stayed W (goes-none 𝓤 H A W 1 B yes (λ κs x f. refl), tt) (name.clauses 𝓤 H A mem run) (WpFn 𝓤 H (𝓣 .C) (𝓣 .Λ) code.function) (WpFn-mono 𝓤 H (W .laws) 𝓣 code.function)
-    (name-walks 𝓤 H A W mem run (𝓣 .C) (𝓣 .Λ) (fmOf 𝓤 H (W .laws) 𝓣) known)
+    → Meets 𝓤 H A next-name.signature (WpFn 𝓤 H (𝓣 .C) (𝓣 .Λ) code.function) (next-name.spec 𝓤 H A mem run)
+next-name-meets 𝓤 H A W mem run 𝓣 known = walk-meets 𝓤 H A next-name.ended stayed W (goes-none 𝓤 H A W 1 B yes (λ κs x f. refl), tt) (next-name.clauses 𝓤 H A mem run) (WpFn 𝓤 H (𝓣 .C) (𝓣 .Λ) code.function) (WpFn-mono 𝓤 H (W .laws) 𝓣 code.function)
+    (next-name-walks 𝓤 H A W mem run (𝓣 .C) (𝓣 .Λ) (fmOf 𝓤 H (W .laws) 𝓣) known)
 
-pub name-spec : {M : Type 1} → stated.statement M
+pub next-name-spec : {M : Type 1} → stated.statement M
 unfolding code.routine tablesOf
-name-spec 𝓤 H 𝓜 𝓖 𝓡 =
-    entered 𝓤 H (tripleOf 𝓤 H (𝓖 .A) name.signature (name.spec 𝓤 H (𝓖 .A) (𝓜 .mem) (𝓡 .run)))
-    (tables 𝓤 H 𝓜 𝓡 code.env .C) (tables 𝓤 H 𝓜 𝓡 code.env .Λ) #names-iterator·name code.function (code.unfolded 𝓤 H 𝓜 𝓡)
-    (name-meets 𝓤 H (𝓖 .A) (givenOf 𝓤 H 𝓜 𝓖) (𝓜 .mem) (𝓡 .run) (tablesOf 𝓤 H 𝓜 (tables 𝓤 H 𝓜 𝓡 code.env))
+next-name-spec 𝓤 H 𝓜 𝓖 𝓡 =
+    entered 𝓤 H (tripleOf 𝓤 H (𝓖 .A) next-name.signature (next-name.spec 𝓤 H (𝓖 .A) (𝓜 .mem) (𝓡 .run)))
+    (tables 𝓤 H 𝓜 𝓡 code.env .C) (tables 𝓤 H 𝓜 𝓡 code.env .Λ) #names-iterator·next-name code.function (code.unfolded 𝓤 H 𝓜 𝓡)
+    (next-name-meets 𝓤 H (𝓖 .A) (givenOf 𝓤 H 𝓜 𝓖) (𝓜 .mem) (𝓡 .run) (tablesOf 𝓤 H 𝓜 (tables 𝓤 H 𝓜 𝓡 code.env))
     (cited 𝓤 H (Next 𝓤 H (𝓖 .A) (𝓜 .mem) (𝓡 .run)) 𝓜 𝓡 code.env #names·next-name next-def.routine code.calls-names·next-name (next-thm.met 𝓤 H 𝓜 𝓖 𝓡)))
