@@ -1,11 +1,9 @@
 // `g`: a message is read, and what was read is written again.
 use crate::cases;
 use crate::print;
-use names::Position;
-use names::Step;
+use names_writer::Collected;
 use reply_reader::Reply;
 use reply_reader::ReplyAnswer;
-use request_reader::Request;
 use request_reader::RequestAnswer;
 use store::Written;
 
@@ -40,92 +38,12 @@ fn show_request(line: &mut [u8], m: &[u8], out: &mut [u8]) -> usize {
 // A refusal has no values to write.
 fn write_request_answer(m: &[u8], answer: RequestAnswer, out: &mut [u8]) -> Written {
     match answer {
-        RequestAnswer::Known { id, request, .. } => write_request(m, answer, id, request, out),
+        RequestAnswer::Known { id, request, .. } => {
+            request_rewriter::write_request(id, request, m, out)
+        }
         RequestAnswer::Unknown { id, kind, .. } => request_writer::write_unknown(id, kind, out),
         RequestAnswer::Refused { number, place } => Written::Refused { number, place },
     }
-}
-
-// A request, with the bytes of its texts or data where they stand in the message.
-pub fn write_request(
-    m: &[u8],
-    answer: RequestAnswer,
-    id: u32,
-    request: Request,
-    out: &mut [u8],
-) -> Written {
-    let path = request_reader::path(m, answer);
-    match request {
-        Request::Access { mode, .. } => request_writer::write_access(id, path, mode, out),
-        Request::Getattr { .. } => request_writer::write_getattr(id, path, out),
-        Request::Readlink { .. } => request_writer::write_readlink(id, path, out),
-        Request::Symlink { .. } => write_symlink(m, answer, id, out),
-        Request::Link { .. } => write_link(m, answer, id, out),
-        Request::Rename { flags, .. } => write_rename(m, answer, id, flags, out),
-        Request::Chmod { mode, .. } => request_writer::write_chmod(id, path, mode, out),
-        Request::Chown { uid, gid, .. } => request_writer::write_chown(id, path, uid, gid, out),
-        Request::Truncate { size, handle, .. } => {
-            request_writer::write_truncate(id, path, size, handle, out)
-        }
-        Request::Fsync {
-            is_datasync,
-            handle,
-            ..
-        } => request_writer::write_fsync(id, path, is_datasync, handle, out),
-        Request::Open { flags, .. } => request_writer::write_open(id, path, flags, out),
-        Request::Mknod { mode, dev, .. } => request_writer::write_mknod(id, path, mode, dev, out),
-        Request::Create { mode, .. } => request_writer::write_create(id, path, mode, out),
-        Request::Release { handle, .. } => request_writer::write_release(id, path, handle, out),
-        Request::Unlink { .. } => request_writer::write_unlink(id, path, out),
-        Request::Read {
-            buffer_size,
-            offset,
-            handle,
-            ..
-        } => request_writer::write_read(id, path, buffer_size, offset, handle, out),
-        Request::Write { offset, handle, .. } => write_write(m, answer, id, offset, handle, out),
-        Request::Mkdir { mode, .. } => request_writer::write_mkdir(id, path, mode, out),
-        Request::Readdir { .. } => request_writer::write_readdir(id, path, out),
-        Request::Rmdir { .. } => request_writer::write_rmdir(id, path, out),
-        Request::Statfs { .. } => request_writer::write_statfs(id, path, out),
-        Request::Utimens {
-            atime,
-            mtime,
-            handle,
-            ..
-        } => request_writer::write_utimens(id, path, atime, mtime, handle, out),
-        Request::Getcreds => request_writer::write_getcreds(id, out),
-    }
-}
-
-fn write_symlink(m: &[u8], answer: RequestAnswer, id: u32, out: &mut [u8]) -> Written {
-    let target = request_reader::target(m, answer);
-    let linkpath = request_reader::linkpath(m, answer);
-    request_writer::write_symlink(id, target, linkpath, out)
-}
-
-fn write_link(m: &[u8], answer: RequestAnswer, id: u32, out: &mut [u8]) -> Written {
-    let old_path = request_reader::old_path(m, answer);
-    let new_path = request_reader::new_path(m, answer);
-    request_writer::write_link(id, old_path, new_path, out)
-}
-
-fn write_rename(m: &[u8], answer: RequestAnswer, id: u32, flags: u8, out: &mut [u8]) -> Written {
-    let old_path = request_reader::old_path(m, answer);
-    let new_path = request_reader::new_path(m, answer);
-    request_writer::write_rename(id, old_path, new_path, flags, out)
-}
-
-fn write_write(
-    m: &[u8],
-    answer: RequestAnswer,
-    id: u32,
-    offset: u64,
-    handle: u64,
-    out: &mut [u8],
-) -> Written {
-    let data = request_reader::data(m, answer);
-    request_writer::write_write(id, data, offset, handle, out)
 }
 
 fn show_reply(
@@ -139,10 +57,13 @@ fn show_reply(
     if let ReplyAnswer::Refused { number, place } = answer {
         return print::refused(line, number, place);
     }
-    let all = collect_names(m, names, lengths);
-    let run = cases::part(names, all.at);
-    let given = cases::part_of_lengths(lengths, all.count);
-    let written = write_reply_answer(m, answer, run, given, out);
+    let collected = collect_names(m, answer, names, lengths);
+    let Collected::Copied { count, len } = collected else {
+        return print::put(line, 0, b"no room to collect the names");
+    };
+    let run = cases::part(names, len);
+    let all = cases::part_of_lengths(lengths, count);
+    let written = write_reply_answer(m, answer, run, all, out);
     print::written(line, written, out)
 }
 
@@ -225,53 +146,17 @@ fn write_read(m: &[u8], answer: ReplyAnswer, id: u32, result: i32, out: &mut [u8
     reply_writer::write_read(id, result, data, out)
 }
 
-// How far the names are collected: the bytes and the lengths so far, and the iterator's position.
-struct Collected {
-    at: usize,
-    count: usize,
-    position: Position,
-    is_ended: bool,
-}
-
-// The bytes of all names in one run, and their lengths. A name takes at least 4 bytes of the message, so fewer turns than it has
-// bytes pass all of them.
-fn collect_names(m: &[u8], run: &mut [u8], lengths: &mut [u32]) -> Collected {
-    let position = names::open(m);
-    let mut all = Collected {
-        at: 0,
-        count: 0,
-        position,
-        is_ended: false,
-    };
-    let mut turns = m.len();
-    while turns > 0 {
-        all = collect_next(m, run, lengths, all);
-        if all.is_ended {
-            return all;
-        }
-        turns -= 1;
+// The names of a readdir reply in one run, and their lengths; none of any other reply.
+fn collect_names(m: &[u8], answer: ReplyAnswer, run: &mut [u8], lengths: &mut [u32]) -> Collected {
+    match answer {
+        ReplyAnswer::Success { reply, .. } => collect_of_reply(m, reply, run, lengths),
+        _ => Collected::Copied { count: 0, len: 0 },
     }
-    all
 }
 
-fn collect_next(m: &[u8], run: &mut [u8], lengths: &mut [u32], all: Collected) -> Collected {
-    let step = names_iterator::step_from(m, all.position);
-    match step {
-        Step::Name { next, .. } => {
-            let name = names::name(m, step);
-            let len = (name.len() % 0x1_0000_0000) as u32;
-            Collected {
-                at: cases::append(run, all.at, name),
-                count: cases::store_length(lengths, all.count, len),
-                position: next,
-                is_ended: false,
-            }
-        }
-        Step::End { position } => Collected {
-            at: all.at,
-            count: all.count,
-            position,
-            is_ended: true,
-        },
+fn collect_of_reply(m: &[u8], reply: Reply, run: &mut [u8], lengths: &mut [u32]) -> Collected {
+    match reply {
+        Reply::Readdir { names } => names_writer::collect_names(m, names, run, lengths),
+        _ => Collected::Copied { count: 0, len: 0 },
     }
 }

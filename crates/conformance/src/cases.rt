@@ -105,7 +105,7 @@ fn expand(prefix: &[u8], fill: u8, into: &mut [u8]) {
 }
 
 // The bytes of `s` stored from `at` on, as far as there is room: the place behind them.
-pub fn append(into: &mut [u8], at: usize, s: &[u8]) -> usize {
+fn append(into: &mut [u8], at: usize, s: &[u8]) -> usize {
     let mut to = at;
     let mut i = 0;
     while i < s.len() {
@@ -145,7 +145,7 @@ pub fn lengths_at(body: &[u8], c: Cursor, count: u32, lengths: &mut [u32]) {
 }
 
 // The length stored at `at`, if there is room: the place behind it.
-pub fn store_length(lengths: &mut [u32], at: usize, len: u32) -> usize {
+fn store_length(lengths: &mut [u32], at: usize, len: u32) -> usize {
     if at < lengths.len() {
         lengths[at] = len;
         return at + 1;

@@ -12,12 +12,13 @@ mod replies;
 mod requests;
 mod writers;
 
-// All memory: a case's body; a message or the texts of a writer; names; their lengths; the lent buffer; and the line of an answer.
+// All memory: a case's body; a message or the texts of a writer; names; their lengths, as many as a message can have; the lent buffer;
+// and the line of an answer.
 fn main() {
     let mut body = [0u8; 200000];
     let mut given = [0u8; 140000];
     let mut names = [0u8; 70000];
-    let mut lengths = [0u32; 2000];
+    let mut lengths = [0u32; 16384];
     let mut out = [0u8; 70000];
     let mut line = [0u8; 8192];
     answer_all(

@@ -6,7 +6,6 @@ use crate::given_requests;
 use crate::print;
 use field::Cursor;
 use reply_reader::ReplyAnswer;
-use request_reader::RequestAnswer;
 use store::Written;
 
 // All of these cases begin with the room and the id.
@@ -49,12 +48,7 @@ fn write(
 fn write_request(body: &[u8], c: Cursor, id: u32, given: &mut [u8], out: &mut [u8]) -> Written {
     let kind = field::u8_at(body, c);
     let request = given_requests::request_at(body, kind.next, kind.value, given);
-    let answer = RequestAnswer::Known {
-        id,
-        request,
-        known: 0,
-    };
-    again::write_request(given, answer, id, request, out)
+    request_rewriter::write_request(id, request, given, out)
 }
 
 fn write_unknown(body: &[u8], c: Cursor, id: u32, out: &mut [u8]) -> Written {
