@@ -5,7 +5,7 @@ use names_writer::Collected;
 use reply_reader::Reply;
 use reply_reader::ReplyAnswer;
 use request_reader::RequestAnswer;
-use store::Written;
+use writer::Written;
 
 pub fn show(
     body: &[u8],
@@ -95,7 +95,7 @@ fn write_reply_answer(
 }
 
 fn write_getcreds(m: &[u8], answer: ReplyAnswer, id: u32, out: &mut [u8]) -> Written {
-    let creds = reply_reader::creds(m, answer);
+    let creds = reply_parts::creds(m, answer);
     reply_writer::write_getcreds(id, creds, out)
 }
 
@@ -137,12 +137,12 @@ pub fn write_success(
 }
 
 fn write_readlink(m: &[u8], answer: ReplyAnswer, id: u32, result: i32, out: &mut [u8]) -> Written {
-    let resolved = reply_reader::resolved(m, answer);
+    let resolved = reply_parts::resolved(m, answer);
     reply_writer::write_readlink(id, result, resolved, out)
 }
 
 fn write_read(m: &[u8], answer: ReplyAnswer, id: u32, result: i32, out: &mut [u8]) -> Written {
-    let data = reply_reader::data(m, answer);
+    let data = reply_parts::data(m, answer);
     reply_writer::write_read(id, result, data, out)
 }
 

@@ -1,7 +1,7 @@
 // `l`: the listing of a request.
 use crate::cases;
 use crate::print;
-use store::Written;
+use writer::Written;
 
 pub fn show(body: &[u8], given: &mut [u8], out: &mut [u8], line: &mut [u8]) -> usize {
     let len = cases::message_at(body, cases::start(), given);

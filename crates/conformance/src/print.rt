@@ -3,7 +3,7 @@
 ghost use Prim.Native.Nat.{_<_};
 use crate::cases;
 use libc::STDOUT_FILENO;
-use store::Written;
+use writer::Written;
 
 fn write_out(line: &[u8], at: usize) {
     io::write_all(STDOUT_FILENO, cases::part(line, at));

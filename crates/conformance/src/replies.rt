@@ -62,9 +62,9 @@ struct Sums {
 }
 
 fn sums_of(m: &[u8], answer: ReplyAnswer) -> Sums {
-    let resolved = print::hash(reply_reader::resolved(m, answer));
-    let data = print::hash(reply_reader::data(m, answer));
-    let creds = print::hash(reply_reader::creds(m, answer));
+    let resolved = print::hash(reply_parts::resolved(m, answer));
+    let data = print::hash(reply_parts::data(m, answer));
+    let creds = print::hash(reply_parts::creds(m, answer));
     Sums {
         resolved,
         data,

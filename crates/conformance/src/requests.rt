@@ -61,12 +61,12 @@ struct Sums {
 }
 
 fn sums_of(m: &[u8], answer: RequestAnswer) -> Sums {
-    let path = print::hash(request_reader::path(m, answer));
-    let target = print::hash(request_reader::target(m, answer));
-    let linkpath = print::hash(request_reader::linkpath(m, answer));
-    let old_path = print::hash(request_reader::old_path(m, answer));
-    let new_path = print::hash(request_reader::new_path(m, answer));
-    let data = print::hash(request_reader::data(m, answer));
+    let path = print::hash(request_parts::path(m, answer));
+    let target = print::hash(request_parts::target(m, answer));
+    let linkpath = print::hash(request_parts::linkpath(m, answer));
+    let old_path = print::hash(request_parts::old_path(m, answer));
+    let new_path = print::hash(request_parts::new_path(m, answer));
+    let data = print::hash(request_parts::data(m, answer));
     Sums {
         path,
         target,

@@ -6,7 +6,7 @@ use crate::given_requests;
 use crate::print;
 use field::Cursor;
 use reply_reader::ReplyAnswer;
-use store::Written;
+use writer::Written;
 
 // All of these cases begin with the room and the id.
 pub fn show(

@@ -1,7 +1,7 @@
 // A buffer that is lent to a writer. It is filled with a pattern first, so that a byte that was changed shows.
 use crate::print;
 use field::Run;
-use store::Written;
+use writer::Written;
 
 // The pattern counts down from ff.
 pub fn fill(out: &mut [u8]) {

@@ -11,9 +11,9 @@ pub fn show(label: &[u8], m: &[u8]) {
     print::put(label);
     let answer = reply_reader::read_reply(m);
     show_answer(answer);
-    print::part(b"resolved", reply_reader::resolved(m, answer));
-    print::part(b"data", reply_reader::data(m, answer));
-    print::part(b"creds", reply_reader::creds(m, answer));
+    print::part(b"resolved", reply_parts::resolved(m, answer));
+    print::part(b"data", reply_parts::data(m, answer));
+    print::part(b"creds", reply_parts::creds(m, answer));
     print::end_line();
 }
 

@@ -9,12 +9,12 @@ pub fn show(label: &[u8], m: &[u8]) {
     print::put(label);
     let answer = request_reader::read_request(m);
     show_answer(answer);
-    print::part(b"path", request_reader::path(m, answer));
-    print::part(b"target", request_reader::target(m, answer));
-    print::part(b"linkpath", request_reader::linkpath(m, answer));
-    print::part(b"old_path", request_reader::old_path(m, answer));
-    print::part(b"new_path", request_reader::new_path(m, answer));
-    print::part(b"data", request_reader::data(m, answer));
+    print::part(b"path", request_parts::path(m, answer));
+    print::part(b"target", request_parts::target(m, answer));
+    print::part(b"linkpath", request_parts::linkpath(m, answer));
+    print::part(b"old_path", request_parts::old_path(m, answer));
+    print::part(b"new_path", request_parts::new_path(m, answer));
+    print::part(b"data", request_parts::data(m, answer));
     print::end_line();
 }
 

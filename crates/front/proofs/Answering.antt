@@ -20,8 +20,8 @@ use Rattle.layout.proofs.Header.{read-runt}
 use Rattle.layout.proofs.Trace.{message-traced}
 use Rattle.layout.proofs.ReplyTypes.{led-type}
 use Rattle.layout.proofs.Fronting.{front-accepted, length-unknownReply, length-invalidReply}
-use Rattle.store.specs.declared.Written.{Written}
-use Rattle.store.specs.Stored.{toldOf, Wrote}
+use Rattle.writer.specs.declared.Written.{Written}
+use Rattle.writer.specs.Writers.{toldOf, Wrote}
 use Rattle.front.specs.declared.Fronted.{Fronted}
 use Rattle.front.specs.Acts.{actOf, actTold, Fronts, RefusedWith}
 

@@ -4,11 +4,11 @@ ghost use mathlib.Core.Path.{_≡_};
 ghost use Prim.Native.Nat.{_≤_};
 ghost use lib.ListN.{length};
 ghost use Rattle.layout.specs.Front.{front as layout·front, idOf, typeOf, unknownReply, invalidReply, reply-with, settle};
-ghost use Rattle.store.specs.Stored.{toldOf};
+ghost use Rattle.writer.specs.Writers.{toldOf};
 ghost use Rattle.front.specs.Acts.{actOf, actTold, Fronts, RefusedWith};
 use field::Cursor;
 use request_reader::RequestAnswer;
-use store::Written;
+use writer::Written;
 
 // What the front tells: the request is handed on, so many bytes of a reply were stored, or document 01's number of refusal.
 pub enum Fronted {

@@ -22,10 +22,12 @@ use Rattle.layout.specs.Writing.{sized, sizedAll, encodeMessage, allWellFormed,
 use Rattle.layout.proofs.Tests.{never}
 use Rattle.layout.proofs.Written.{length-sized}
 use Rattle.field.specs.declared.Cursor.{Cursor}
-use Rattle.store.specs.declared.Written.{Written}
-use Rattle.store.specs.declared.Written.the-variants.{Refused}
-use Rattle.store.specs.Stored.{Puts, concat, admitted, Ends, Wrote}
-use Rattle.store.proofs.Storing.{remainder, wrote}
+use Rattle.writer.specs.declared.Written.{Written}
+use Rattle.writer.specs.declared.Written.the-variants.{Refused}
+use Rattle.store.specs.Stored.{Puts, concat}
+use Rattle.writer.specs.Writers.{admitted, Ends, Wrote}
+use Rattle.store.proofs.Storing.{remainder}
+use Rattle.writer.proofs.Writers.{wrote}
 use Rattle.names_writer.specs.Readdir.{namePieces, storeNames}
 
 -- ---- the names' pieces

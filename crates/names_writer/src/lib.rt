@@ -5,14 +5,15 @@ ghost use lib.Dec.{eqb};
 ghost use lib.ListN.{length};
 ghost use Rattle.layout.specs.Reading.{bytesAt};
 ghost use Rattle.layout.specs.Writing.{allWellFormed, split, sum, writeNames};
-ghost use Rattle.store.specs.Stored.{Puts, Wrote};
+ghost use Rattle.store.specs.Stored.{Puts};
+ghost use Rattle.writer.specs.Writers.{Wrote};
 ghost use Rattle.names_writer.specs.Readdir.{namePieces, storeNames};
 ghost use Rattle.names_writer.specs.Collecting.{namesIn, nextOf, sizes, counted, buffers, Collects, RoomFor, Copies};
 use field::Cursor;
 use field::Names;
 use method::Method;
 use number::ReadU32;
-use store::Written;
+use writer::Written;
 
 // The success reply of readdir: `names` are the names one behind the other, `lengths` the length of each.
 pub fn write_readdir(id: u32, result: i32, names: &[u8], lengths: &[u32], out: &mut [u8]) -> Written
@@ -57,13 +58,13 @@ fn write_summed(id: u32, result: i32, names: &[u8], lengths: &[u32], out: &mut [
     ensures { λ r. ⌜ Wrote (storeNames id result (split (now (lengths .entry)) (now (names .entry))) (now (out .entry))) (now (out .exit)) r ⌝ }
 {
     let texts = are_texts(names, lengths);
-    let start = store::admit(texts, names.len(), 4 * lengths.len(), 13, out.len());
+    let start = writer::admit(texts, names.len(), 4 * lengths.len(), 13, out.len());
     let header = store::put_header(out, start, id, Method::READDIR_REPLY);
     let behind_result = store::put_i32(out, header, result);
     let count = (lengths.len() % 0x1_0000_0000) as u32;
     let behind_count = store::put_u32(out, behind_result, count);
     let behind_names = put_names(out, behind_count, names, lengths);
-    store::finish(behind_names)
+    writer::finish(behind_names)
 }
 
 // Each name by itself is well-formed text.
@@ -76,7 +77,7 @@ fn are_texts(names: &[u8], lengths: &[u32]) -> bool
     while i < lengths.len() {
         let len = lengths[i] as usize;
         let end = at + len;
-        if !store::is_text(&names[at..end]) {
+        if !writer::is_text(&names[at..end]) {
             return false;
         }
         at = end;

@@ -3,28 +3,24 @@ use mathlib.Core.Path.{_≡_, refl, sym, ap, _∙_}
 use mathlib.Core.Bool.{Bool, true, false, cond}
 use mathlib.Core.List.{List, [], _∷_}
 use Prim.Native.Nat.{ℕ, _<_}
-use Prim.Native.String.{String}
 use native.Mathlib.Omega.{arith}
 use lib.Dec.{eqb}
 use lib.IntN.{ℤ, pos, negsuc, natAbs}
 use lib.Signed.{ltZ}
-use lib.Text.{eqt}
 use mir.Syntax.{w32}
 use mir.Val.{SFits}
 use borrow.Author.Tests.{eq-eqb, ne-eqb, ltb-true}
 use Rattle.number.specs.TwosComplement.{signedOf}
-use Rattle.layout.specs.Kinds.{i32, Kind, num, Field}
+use Rattle.layout.specs.Kinds.{i32, Kind, num}
 use Rattle.layout.specs.Table.{reply, plain, led, plan}
 use Rattle.layout.specs.Values.{Part, Value, signed}
-use Rattle.layout.specs.Reading.{Outcome, got, fail, Reader, followed, seq, mapped, numAt, valueOf, fieldsAt, failure, success, Body, body, dataSize, succeeded, behindResult, bodyAt, Message, message, Answer, refused, accepted, answer}
-use Rattle.layout.specs.Parts.{nothing, named}
-use Rattle.layout.proofs.PartsNamed.{none-named}
+use Rattle.layout.specs.Reading.{Outcome, got, fail, followed, seq, mapped, numAt, fieldsAt, failure, success, Body, body, dataSize, succeeded, behindResult, bodyAt, message, Answer, refused, accepted, answer}
+use Rattle.layout.specs.Parts.{nothing}
 use Rattle.field.specs.declared.Cursor.{Cursor}
 use Rattle.field.specs.Cursors.{outcome, from, Ended, Took, Reads}
 use Rattle.field.proofs.Cursors.{push, chain, map-ended, fields-ended}
 use Rattle.reply_reader.specs.declared.Reply.{Reply}
-use Rattle.reply_reader.specs.Parts.{partsBy, noParts}
-use Rattle.reply_reader.specs.Answers.{typeOf, valuesOf, answerAt, behind, successAt, Finished, Compared}
+use Rattle.reply_reader.specs.Answers.{typeOf, valuesOf, answerAt, successAt, Finished, Compared}
 
 never {ℓ} : {A : Type ℓ} → _≡_ {A = ℕ} 0 1 → A
 never z = let none : ⊥ = omega arith in absurd none
@@ -119,23 +115,6 @@ module _ (m : List ℕ) (d : Cursor) (z : ℤ) (i t : ℕ) where
       → accepted failure i t (signed z ∷ []) (d .at) ≡ successAt m d i t z
   unfolding successAt
   result-failure p n h = rw (p, below-zero z h .1, eq-eqb (d .code) 0 n)
-
--- ---- replies without text or data
-
--- a failure shows its result alone, and a result is no part
-pub failure-nameless : (fs : List Field) (z : ℤ) → partsBy (λ n. named n fs (signed z ∷ [])) ≡ noParts
-failure-nameless [] z = refl
-failure-nameless (f ∷ fs) z = rw (one "resolved", one "data", one "creds")
-  where
-    picked : (b : Bool) → cond b nothing nothing ≡ nothing
-    picked true = refl
-    picked false = refl
-
-    one : (n : String) → named n (f ∷ fs) (signed z ∷ []) ≡ nothing
-    one n = rw (none-named n fs) (picked (eqt n (f .name)))
-
-pub unknown-nameless : (fs : List Field) → partsBy (λ n. named n fs []) ≡ noParts
-unknown-nameless fs = rw (none-named "resolved" fs, none-named "data" fs, none-named "creds" fs)
 
 -- ---- the comparison of a read reply
 

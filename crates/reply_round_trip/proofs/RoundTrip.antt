@@ -20,10 +20,10 @@ use Rattle.layout.proofs.Trace.{message-traced}
 use Rattle.layout.proofs.Rewritten.{normalised-same}
 use Rattle.field.specs.Values.{shownIn}
 use Rattle.field.proofs.ShownInside.{accepted-shown}
-use Rattle.store.specs.declared.Written.{Written}
-use Rattle.store.specs.declared.Written.the-variants.{Stored}
-use Rattle.store.specs.Stored.{Wrote}
-use Rattle.store.proofs.RoundTrip.{finished, Rewritten, again}
+use Rattle.writer.specs.declared.Written.{Written}
+use Rattle.writer.specs.declared.Written.the-variants.{Stored}
+use Rattle.writer.specs.Writers.{Wrote}
+use Rattle.writer.proofs.RoundTrip.{finished, Rewritten, again}
 use Rattle.reply_reader.specs.declared.ReplyAnswer.{ReplyAnswer}
 use Rattle.reply_reader.specs.Answers.{answerOf}
 

@@ -21,10 +21,12 @@ use Rattle.layout.specs.Reading.{failure, success}
 use Rattle.layout.specs.Writing.{sized, encode, encodeAll, encodeMessage, hasShape, negative, textRight, textsRight, counts, countRight, write}
 use Rattle.layout.proofs.Tests.{never}
 use Rattle.field.specs.declared.Cursor.{Cursor}
-use Rattle.store.specs.declared.Written.{Written}
-use Rattle.store.specs.declared.Written.the-variants.{Refused}
-use Rattle.store.specs.Stored.{refusal, Puts, concat, admitted, Fields, Ends, Wrote}
-use Rattle.store.proofs.Storing.{puts-then, encodings, concat-encodings, fields-put, tested, wrote}
+use Rattle.writer.specs.declared.Written.{Written}
+use Rattle.writer.specs.declared.Written.the-variants.{Refused}
+use Rattle.store.specs.Stored.{refusal, Puts, concat, Fields}
+use Rattle.writer.specs.Writers.{admitted, Ends, Wrote}
+use Rattle.store.proofs.Storing.{puts-then, encodings, concat-encodings, fields-put}
+use Rattle.writer.proofs.Writers.{tested, wrote}
 use Rattle.reply_writer.specs.Replying.{allowed, Started}
 
 -- ---- the sign of a result

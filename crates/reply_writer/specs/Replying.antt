@@ -15,7 +15,8 @@ use Rattle.layout.specs.Values.{Value}
 use Rattle.layout.specs.Reading.{success}
 use Rattle.layout.specs.Writing.{Written, write}
 use Rattle.field.specs.declared.Cursor.{Cursor}
-use Rattle.store.specs.Stored.{refusal, admitted, Puts}
+use Rattle.store.specs.Stored.{refusal, Puts}
+use Rattle.writer.specs.Writers.{admitted}
 
 -- the success of a method with this id and these values, the result first where it has one, in this buffer
 abbrev pub replying : Method → ℕ → List (Value (List ℕ)) → List ℕ → Written

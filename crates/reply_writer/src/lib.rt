@@ -3,26 +3,25 @@
 // All checks stand before the first store, so a refused writer changes no byte.
 ghost use mathlib.Core.Path.{_≡_};
 ghost use mathlib.Core.Bool.{true, false};
-ghost use mathlib.Core.List.{[], _∷_, _++_};
+ghost use mathlib.Core.List.{[], _∷_};
 ghost use Prim.Native.Nat.{_+_, _≤_};
 ghost use lib.ListN.{length};
 ghost use Rattle.number.specs.BigEndian.{bytesOf};
 ghost use Rattle.number.specs.TwosComplement.{bitsOf};
 ghost use Rattle.method.specs.declared.Method.the-variants as methods;
-ghost use Rattle.method.specs.Methods.{replyNumber};
-ghost use Rattle.layout.specs.Kinds.{kinds, attributes as attributes·fields, statistics as statistics·fields};
 ghost use Rattle.layout.specs.Values.{number, signed, run};
 ghost use Rattle.layout.specs.Table.{reply, unknownResponse, led, plan};
 ghost use Rattle.layout.specs.Reading.{unknown, failure, success};
 ghost use Rattle.layout.specs.Writing.{counts, write};
 ghost use Rattle.field.specs.Values.{attributesValues, statisticsValues};
-ghost use Rattle.store.specs.Stored.{Puts, Fields, Wrote};
+ghost use Rattle.store.specs.Stored.{Puts};
+ghost use Rattle.writer.specs.Writers.{Wrote};
 ghost use Rattle.reply_writer.specs.Replying.{replying, allowed, Started};
 use field::Attributes;
 use field::Cursor;
 use field::Statistics;
 use method::Method;
-use store::Written;
+use writer::Written;
 
 // Where a success is stored from: the start of a buffer of `len` bytes, or the first refusal in document 01's order. `run` is the
 // length of its text or data, 0 where it has none, and `fields` is the size of all else behind the result.
@@ -35,7 +34,7 @@ fn admit(result: i32, texts: bool, counted: bool, run: usize, fields: usize, len
     }
     if texts {
         if counted {
-            return store::admit(true, run, 0, 9 + fields, len);
+            return writer::admit(true, run, 0, 9 + fields, len);
         }
         return Cursor { code: 6, at: 0 };
     }
@@ -65,7 +64,7 @@ fn write_result(id: u32, kind: u8, result: i32, out: &mut [u8]) -> Written
     ensures { λ r. ⌜ Wrote (write reply success id kind (signed result ∷ []) true (now (out .entry))) (now (out .exit)) r ⌝ }
 {
     let start = start(out, id, kind, result, 0);
-    store::finish(start)
+    writer::finish(start)
 }
 
 pub fn write_access(id: u32, result: i32, out: &mut [u8]) -> Written
@@ -78,18 +77,18 @@ pub fn write_getattr(id: u32, result: i32, attributes: Attributes, out: &mut [u8
     ensures { λ r. ⌜ Wrote (replying methods.Getattr id (signed result ∷ attributesValues attributes) (now (out .entry))) (now (out .exit)) r ⌝ }
 {
     let start = start(out, id, Method::GETATTR_REPLY, result, 88);
-    let behind_attributes = put_attributes(out, start, attributes);
-    store::finish(behind_attributes)
+    let behind_attributes = structures::put_attributes(out, start, attributes);
+    writer::finish(behind_attributes)
 }
 
 pub fn write_readlink(id: u32, result: i32, resolved: &[u8], out: &mut [u8]) -> Written
     ensures { λ r. ⌜ Wrote (replying methods.Readlink id (signed result ∷ run (now (resolved .entry)) ∷ []) (now (out .entry))) (now (out .exit)) r ⌝ }
 {
-    let texts = store::is_text(resolved);
+    let texts = writer::is_text(resolved);
     let place = admit(result, texts, true, resolved.len(), 4, out.len());
     let start = put_result(out, place, id, Method::READLINK_REPLY, result);
     let behind_resolved = store::put_run(out, start, resolved);
-    store::finish(behind_resolved)
+    writer::finish(behind_resolved)
 }
 
 pub fn write_symlink(id: u32, result: i32, out: &mut [u8]) -> Written
@@ -139,7 +138,7 @@ pub fn write_open(id: u32, result: i32, handle: u64, out: &mut [u8]) -> Written
 {
     let start = start(out, id, Method::OPEN_REPLY, result, 8);
     let behind_handle = store::put_u64(out, start, handle);
-    store::finish(behind_handle)
+    writer::finish(behind_handle)
 }
 
 pub fn write_mknod(id: u32, result: i32, out: &mut [u8]) -> Written
@@ -153,7 +152,7 @@ pub fn write_create(id: u32, result: i32, handle: u64, out: &mut [u8]) -> Writte
 {
     let start = start(out, id, Method::CREATE_REPLY, result, 8);
     let behind_handle = store::put_u64(out, start, handle);
-    store::finish(behind_handle)
+    writer::finish(behind_handle)
 }
 
 pub fn write_release(id: u32, result: i32, out: &mut [u8]) -> Written
@@ -176,7 +175,7 @@ pub fn write_read(id: u32, result: i32, data: &[u8], out: &mut [u8]) -> Written
     let place = admit(result, true, counted, data.len(), 4, out.len());
     let start = put_result(out, place, id, Method::READ_REPLY, result);
     let behind_data = store::put_run(out, start, data);
-    store::finish(behind_data)
+    writer::finish(behind_data)
 }
 
 fn result_counts(result: i32, data: &[u8]) -> bool
@@ -210,8 +209,8 @@ pub fn write_statfs(id: u32, result: i32, statistics: Statistics, out: &mut [u8]
     ensures { λ r. ⌜ Wrote (replying methods.Statfs id (signed result ∷ statisticsValues statistics) (now (out .entry))) (now (out .exit)) r ⌝ }
 {
     let start = start(out, id, Method::STATFS_REPLY, result, 64);
-    let behind_statistics = put_statistics(out, start, statistics);
-    store::finish(behind_statistics)
+    let behind_statistics = structures::put_statistics(out, start, statistics);
+    writer::finish(behind_statistics)
 }
 
 pub fn write_utimens(id: u32, result: i32, out: &mut [u8]) -> Written
@@ -220,46 +219,15 @@ pub fn write_utimens(id: u32, result: i32, out: &mut [u8]) -> Written
     write_result(id, Method::UTIMENS_REPLY, result, out)
 }
 
-// The 88 bytes of attributes.
-fn put_attributes(out: &mut [u8], c: Cursor, attributes: Attributes) -> Cursor
-    ensures { λ r. ⌜ Fields (now (out .entry)) c (kinds attributes·fields) (attributesValues attributes) (now (out .exit)) r ⌝ }
-{
-    let inode = store::put_u64(out, c, attributes.inode);
-    let nlink = store::put_u64(out, inode, attributes.nlink);
-    let mode = store::put_u32(out, nlink, attributes.mode);
-    let uid = store::put_u32(out, mode, attributes.uid);
-    let gid = store::put_u32(out, uid, attributes.gid);
-    let rdev = store::put_u64(out, gid, attributes.rdev);
-    let size = store::put_u64(out, rdev, attributes.size);
-    let blocks = store::put_u64(out, size, attributes.blocks);
-    let atime = store::put_timestamp(out, blocks, attributes.atime);
-    let mtime = store::put_timestamp(out, atime, attributes.mtime);
-    store::put_timestamp(out, mtime, attributes.ctime)
-}
-
-// The 64 bytes of statistics.
-fn put_statistics(out: &mut [u8], c: Cursor, statistics: Statistics) -> Cursor
-    ensures { λ r. ⌜ Fields (now (out .entry)) c (kinds statistics·fields) (statisticsValues statistics) (now (out .exit)) r ⌝ }
-{
-    let bsize = store::put_u64(out, c, statistics.bsize);
-    let frsize = store::put_u64(out, bsize, statistics.frsize);
-    let blocks = store::put_u64(out, frsize, statistics.blocks);
-    let bfree = store::put_u64(out, blocks, statistics.bfree);
-    let bavail = store::put_u64(out, bfree, statistics.bavail);
-    let files = store::put_u64(out, bavail, statistics.files);
-    let ffree = store::put_u64(out, files, statistics.ffree);
-    store::put_u64(out, ffree, statistics.namemax)
-}
-
 // A getcreds reply has no result.
 pub fn write_getcreds(id: u32, creds: &[u8], out: &mut [u8]) -> Written
     ensures { λ r. ⌜ Wrote (replying methods.Getcreds id (run (now (creds .entry)) ∷ []) (now (out .entry))) (now (out .exit)) r ⌝ }
 {
-    let texts = store::is_text(creds);
-    let place = store::admit(texts, creds.len(), 0, 9, out.len());
+    let texts = writer::is_text(creds);
+    let place = writer::admit(texts, creds.len(), 0, 9, out.len());
     let header = store::put_header(out, place, id, Method::GETCREDS_REPLY);
     let behind_creds = store::put_run(out, header, creds);
-    store::finish(behind_creds)
+    writer::finish(behind_creds)
 }
 
 // A failure of any method that has a result, by its reply type and its negative result.
@@ -279,9 +247,9 @@ pub fn write_failure(id: u32, kind: u8, result: i32, out: &mut [u8]) -> Written
         };
     }
     if result < 0 {
-        let place = store::admit(true, 0, 0, 9, out.len());
+        let place = writer::admit(true, 0, 0, 9, out.len());
         let behind_result = put_result(out, place, id, kind, result);
-        return store::finish(behind_result);
+        return writer::finish(behind_result);
     }
     Written::Refused {
         number: 8,
@@ -292,5 +260,5 @@ pub fn write_failure(id: u32, kind: u8, result: i32, out: &mut [u8]) -> Written
 pub fn write_unknown_response(id: u32, out: &mut [u8]) -> Written
     ensures { λ r. ⌜ Wrote (write reply unknown id unknownResponse [] true (now (out .entry))) (now (out .exit)) r ⌝ }
 {
-    store::write_header(id, Method::UNKNOWN_RESPONSE, out)
+    writer::write_header(id, Method::UNKNOWN_RESPONSE, out)
 }

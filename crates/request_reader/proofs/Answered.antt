@@ -1,21 +1,17 @@
 -- From the fields that were read to the answer. Assumes nothing.
-use mathlib.Core.Path.{_≡_, refl, sym, ap, _∙_}
+use mathlib.Core.Path.{_≡_, ap, _∙_}
 use mathlib.Core.List.{List, [], map, reverse}
 use Prim.Native.Nat.{ℕ}
 use Rattle.method.specs.Methods.{methods, requestNumber}
 use Rattle.method.proofs.Table.{NoneOf, request-unknown}
-use Rattle.layout.specs.Kinds.{Field, Kind}
+use Rattle.layout.specs.Kinds.{Kind}
 use Rattle.layout.specs.Table.{request, asked, plan}
-use Rattle.layout.specs.Values.{Part, Value}
 use Rattle.layout.specs.Reading.{unknown, known, body, message, mapped, fieldsAt, Answer, accepted, answer, behindHeader}
-use Rattle.layout.specs.Parts.{named}
-use Rattle.layout.proofs.PartsNamed.{none-named}
 use Rattle.field.specs.declared.Cursor.{Cursor}
 use Rattle.field.specs.Cursors.{Reads}
 use Rattle.field.proofs.Cursors.{map-ended, fields-ended}
 use Rattle.request_reader.specs.declared.Request.{Request}
 use Rattle.request_reader.specs.Answers.{typeOf, valuesOf, Finished, answerAt}
-use Rattle.request_reader.specs.Parts.{partsBy, noParts}
 
 -- the fields of a method were read: the answer is the layout's
 pub answered : {m : List ℕ} {c e : Cursor} {i t : ℕ} {q : Request} {a : Answer} {ks : List Kind}
@@ -28,8 +24,3 @@ answered {i = i} {t = t} {q = q} {ks = ks} f n p r =
 pub not-known : (m : List ℕ) (i t : ℕ) → NoneOf (reverse (map requestNumber methods)) t → accepted unknown i t [] 5 ≡ behindHeader request i t m
 unfolding plan
 not-known m i t n = rw (request-unknown t n)
-
--- a request of no method has no part
-pub unknown-nameless : (fs : List Field) → partsBy (λ n. named n fs []) ≡ noParts
-unknown-nameless fs =
-    rw (none-named "path" fs, none-named "target" fs, none-named "linkpath" fs, none-named "old_path" fs, none-named "new_path" fs, none-named "data" fs)

@@ -25,10 +25,10 @@ use Rattle.layout.proofs.Written.{write-finished}
 use Rattle.layout.proofs.Rewritten.{normalised-same}
 use Rattle.field.specs.Values.{shownIn}
 use Rattle.field.proofs.ShownInside.{accepted-shown}
-use Rattle.store.specs.declared.Written.{Written}
-use Rattle.store.specs.declared.Written.the-variants.{Stored}
-use Rattle.store.specs.Stored.{Wrote}
-use Rattle.store.proofs.RoundTrip.{finished, Rewritten, again}
+use Rattle.writer.specs.declared.Written.{Written}
+use Rattle.writer.specs.declared.Written.the-variants.{Stored}
+use Rattle.writer.specs.Writers.{Wrote}
+use Rattle.writer.proofs.RoundTrip.{finished, Rewritten, again}
 use Rattle.request_reader.specs.declared.Request.{Request}
 use Rattle.request_reader.specs.declared.RequestAnswer.{RequestAnswer}
 use Rattle.request_reader.specs.declared.RequestAnswer.the-variants as A

@@ -1,13 +1,13 @@
 // A request of any method, as the reader gives it, written into a lent buffer. What was read is written again by one call.
 ghost use mathlib.Core.List.{map};
 ghost use Rattle.field.specs.Values.{shownIn};
-ghost use Rattle.store.specs.Stored.{Wrote};
+ghost use Rattle.writer.specs.Writers.{Wrote};
 ghost use Rattle.request_reader.specs.Answers.{methodOf, valuesOf};
 ghost use Rattle.request_writer.specs.Asking.{asking};
 use field::bytes_of;
 use request_reader::Request;
 use request_writer::*;
-use store::Written;
+use writer::Written;
 
 // The runs of `request` are parts of `texts`: the message that was read, or any slice in which the texts and data stand. A run
 // that does not lie inside it is written as an empty one.

@@ -16,11 +16,13 @@ use Rattle.layout.specs.Values.{Value, run}
 use Rattle.layout.specs.Reading.{unknown, known}
 use Rattle.layout.specs.Writing.{sized, encode, encodeAll, encodeMessage, textRight, textsRight, storeChecked, write}
 use Rattle.field.specs.declared.Cursor.{Cursor}
-use Rattle.store.specs.declared.Written.{Written}
-use Rattle.store.specs.declared.Written.the-variants.{Refused}
+use Rattle.writer.specs.declared.Written.{Written}
+use Rattle.writer.specs.declared.Written.the-variants.{Refused}
 use Rattle.request_writer.specs.Asking.{Started, StartedTwo}
-use Rattle.store.specs.Stored.{Puts, concat, admitted, Fields, Ends, Wrote}
-use Rattle.store.proofs.Storing.{puts-then, encodings, concat-encodings, fields-put, wrote}
+use Rattle.store.specs.Stored.{Puts, concat, Fields}
+use Rattle.writer.specs.Writers.{admitted, Ends, Wrote}
+use Rattle.store.proofs.Storing.{puts-then, encodings, concat-encodings, fields-put}
+use Rattle.writer.proofs.Writers.{wrote}
 
 -- the pieces are the request's, and their size was checked
 asks : (i t : ℕ) (vs : List (Value (List ℕ))) {l n : List ℕ} {f : Cursor} {es : List (List ℕ)} {r : Written} {ks : List Kind} (size : ℕ) (ok : Bool)

@@ -12,7 +12,8 @@ use Rattle.layout.specs.Values.{Value}
 use Rattle.layout.specs.Reading.{known}
 use Rattle.layout.specs.Writing.{Written, write}
 use Rattle.field.specs.declared.Cursor.{Cursor}
-use Rattle.store.specs.Stored.{admitted, Puts}
+use Rattle.store.specs.Stored.{Puts}
+use Rattle.writer.specs.Writers.{admitted}
 
 -- the request of a method with this id and these values, in this buffer
 abbrev pub asking : Method → ℕ → List (Value (List ℕ)) → List ℕ → Written

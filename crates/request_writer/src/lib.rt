@@ -10,21 +10,21 @@ ghost use Rattle.layout.specs.Values.{number, signed, truth, run};
 ghost use Rattle.layout.specs.Table.{request};
 ghost use Rattle.layout.specs.Reading.{unknown};
 ghost use Rattle.layout.specs.Writing.{write};
-ghost use Rattle.store.specs.Stored.{Wrote};
+ghost use Rattle.writer.specs.Writers.{Wrote};
 ghost use Rattle.request_writer.specs.Asking.{asking, Started, StartedTwo};
 use field::Cursor;
 use field::Timestamp;
 use method::Lookup;
 use method::Method;
-use store::Written;
+use writer::Written;
 
 // The header and the path of a request whose numbers take so many bytes, if it passes the checks.
 fn start_path(out: &mut [u8], id: u32, kind: u8, path: &[u8], numbers: usize) -> Cursor
     requires { ⌜ numbers ≤ 64 ⌝ }
     ensures { λ r. ⌜ Started (wellFormed (now (path .entry))) (now (out .entry)) id kind (now (path .entry)) numbers (now (out .exit)) r ⌝ }
 {
-    let texts = store::is_text(path);
-    let place = store::admit(texts, path.len(), 0, 9 + numbers, out.len());
+    let texts = writer::is_text(path);
+    let place = writer::admit(texts, path.len(), 0, 9 + numbers, out.len());
     let header = store::put_header(out, place, id, kind);
     store::put_run(out, header, path)
 }
@@ -34,7 +34,7 @@ fn start_data(out: &mut [u8], id: u32, kind: u8, data: &[u8], numbers: usize) ->
     requires { ⌜ numbers ≤ 64 ⌝ }
     ensures { λ r. ⌜ Started true (now (out .entry)) id kind (now («data» .entry)) numbers (now (out .exit)) r ⌝ }
 {
-    let place = store::admit(true, data.len(), 0, 9 + numbers, out.len());
+    let place = writer::admit(true, data.len(), 0, 9 + numbers, out.len());
     let header = store::put_header(out, place, id, kind);
     store::put_run(out, header, data)
 }
@@ -51,8 +51,8 @@ fn start_paths(
     requires { ⌜ numbers ≤ 64 ⌝ }
     ensures { λ r. ⌜ StartedTwo (now (out .entry)) id kind (now (first .entry)) (now (second .entry)) numbers (now (out .exit)) r ⌝ }
 {
-    let texts = both(store::is_text(first), store::is_text(second));
-    let place = store::admit(texts, first.len(), second.len(), 13 + numbers, out.len());
+    let texts = both(writer::is_text(first), writer::is_text(second));
+    let place = writer::admit(texts, first.len(), second.len(), 13 + numbers, out.len());
     let header = store::put_header(out, place, id, kind);
     let behind = store::put_run(out, header, first);
     store::put_run(out, behind, second)
@@ -72,35 +72,35 @@ pub fn write_access(id: u32, path: &[u8], mode: i8, out: &mut [u8]) -> Written
 {
     let start = start_path(out, id, Method::ACCESS, path, 1);
     let behind_mode = store::put_i8(out, start, mode);
-    store::finish(behind_mode)
+    writer::finish(behind_mode)
 }
 
 pub fn write_getattr(id: u32, path: &[u8], out: &mut [u8]) -> Written
     ensures { λ r. ⌜ Wrote (asking methods.Getattr id (run (now (path .entry)) ∷ []) (now (out .entry))) (now (out .exit)) r ⌝ }
 {
     let start = start_path(out, id, Method::GETATTR, path, 0);
-    store::finish(start)
+    writer::finish(start)
 }
 
 pub fn write_readlink(id: u32, path: &[u8], out: &mut [u8]) -> Written
     ensures { λ r. ⌜ Wrote (asking methods.Readlink id (run (now (path .entry)) ∷ []) (now (out .entry))) (now (out .exit)) r ⌝ }
 {
     let start = start_path(out, id, Method::READLINK, path, 0);
-    store::finish(start)
+    writer::finish(start)
 }
 
 pub fn write_symlink(id: u32, target: &[u8], linkpath: &[u8], out: &mut [u8]) -> Written
     ensures { λ r. ⌜ Wrote (asking methods.Symlink id (run (now (target .entry)) ∷ run (now (linkpath .entry)) ∷ []) (now (out .entry))) (now (out .exit)) r ⌝ }
 {
     let start = start_paths(out, id, Method::SYMLINK, target, linkpath, 0);
-    store::finish(start)
+    writer::finish(start)
 }
 
 pub fn write_link(id: u32, old_path: &[u8], new_path: &[u8], out: &mut [u8]) -> Written
     ensures { λ r. ⌜ Wrote (asking methods.Link id (run (now («old_path» .entry)) ∷ run (now («new_path» .entry)) ∷ []) (now (out .entry))) (now (out .exit)) r ⌝ }
 {
     let start = start_paths(out, id, Method::LINK, old_path, new_path, 0);
-    store::finish(start)
+    writer::finish(start)
 }
 
 pub fn write_rename(id: u32, old_path: &[u8], new_path: &[u8], flags: u8, out: &mut [u8]) -> Written
@@ -108,7 +108,7 @@ pub fn write_rename(id: u32, old_path: &[u8], new_path: &[u8], flags: u8, out: &
 {
     let start = start_paths(out, id, Method::RENAME, old_path, new_path, 1);
     let behind_flags = store::put_u8(out, start, flags);
-    store::finish(behind_flags)
+    writer::finish(behind_flags)
 }
 
 pub fn write_chmod(id: u32, path: &[u8], mode: u32, out: &mut [u8]) -> Written
@@ -116,7 +116,7 @@ pub fn write_chmod(id: u32, path: &[u8], mode: u32, out: &mut [u8]) -> Written
 {
     let start = start_path(out, id, Method::CHMOD, path, 4);
     let behind_mode = store::put_u32(out, start, mode);
-    store::finish(behind_mode)
+    writer::finish(behind_mode)
 }
 
 pub fn write_chown(id: u32, path: &[u8], uid: u32, gid: u32, out: &mut [u8]) -> Written
@@ -125,7 +125,7 @@ pub fn write_chown(id: u32, path: &[u8], uid: u32, gid: u32, out: &mut [u8]) -> 
     let start = start_path(out, id, Method::CHOWN, path, 8);
     let behind_uid = store::put_u32(out, start, uid);
     let behind_gid = store::put_u32(out, behind_uid, gid);
-    store::finish(behind_gid)
+    writer::finish(behind_gid)
 }
 
 pub fn write_truncate(id: u32, path: &[u8], size: u64, handle: u64, out: &mut [u8]) -> Written
@@ -134,7 +134,7 @@ pub fn write_truncate(id: u32, path: &[u8], size: u64, handle: u64, out: &mut [u
     let start = start_path(out, id, Method::TRUNCATE, path, 16);
     let behind_size = store::put_u64(out, start, size);
     let behind_handle = store::put_u64(out, behind_size, handle);
-    store::finish(behind_handle)
+    writer::finish(behind_handle)
 }
 
 pub fn write_fsync(id: u32, path: &[u8], is_datasync: bool, handle: u64, out: &mut [u8]) -> Written
@@ -143,7 +143,7 @@ pub fn write_fsync(id: u32, path: &[u8], is_datasync: bool, handle: u64, out: &m
     let start = start_path(out, id, Method::FSYNC, path, 9);
     let behind_is_datasync = store::put_bool(out, start, is_datasync);
     let behind_handle = store::put_u64(out, behind_is_datasync, handle);
-    store::finish(behind_handle)
+    writer::finish(behind_handle)
 }
 
 pub fn write_open(id: u32, path: &[u8], flags: i32, out: &mut [u8]) -> Written
@@ -151,7 +151,7 @@ pub fn write_open(id: u32, path: &[u8], flags: i32, out: &mut [u8]) -> Written
 {
     let start = start_path(out, id, Method::OPEN, path, 4);
     let behind_flags = store::put_i32(out, start, flags);
-    store::finish(behind_flags)
+    writer::finish(behind_flags)
 }
 
 pub fn write_mknod(id: u32, path: &[u8], mode: u32, dev: u64, out: &mut [u8]) -> Written
@@ -160,7 +160,7 @@ pub fn write_mknod(id: u32, path: &[u8], mode: u32, dev: u64, out: &mut [u8]) ->
     let start = start_path(out, id, Method::MKNOD, path, 12);
     let behind_mode = store::put_u32(out, start, mode);
     let behind_dev = store::put_u64(out, behind_mode, dev);
-    store::finish(behind_dev)
+    writer::finish(behind_dev)
 }
 
 pub fn write_create(id: u32, path: &[u8], mode: u32, out: &mut [u8]) -> Written
@@ -168,7 +168,7 @@ pub fn write_create(id: u32, path: &[u8], mode: u32, out: &mut [u8]) -> Written
 {
     let start = start_path(out, id, Method::CREATE, path, 4);
     let behind_mode = store::put_u32(out, start, mode);
-    store::finish(behind_mode)
+    writer::finish(behind_mode)
 }
 
 pub fn write_release(id: u32, path: &[u8], handle: u64, out: &mut [u8]) -> Written
@@ -176,14 +176,14 @@ pub fn write_release(id: u32, path: &[u8], handle: u64, out: &mut [u8]) -> Writt
 {
     let start = start_path(out, id, Method::RELEASE, path, 8);
     let behind_handle = store::put_u64(out, start, handle);
-    store::finish(behind_handle)
+    writer::finish(behind_handle)
 }
 
 pub fn write_unlink(id: u32, path: &[u8], out: &mut [u8]) -> Written
     ensures { λ r. ⌜ Wrote (asking methods.Unlink id (run (now (path .entry)) ∷ []) (now (out .entry))) (now (out .exit)) r ⌝ }
 {
     let start = start_path(out, id, Method::UNLINK, path, 0);
-    store::finish(start)
+    writer::finish(start)
 }
 
 pub fn write_read(
@@ -200,7 +200,7 @@ pub fn write_read(
     let behind_buffer_size = store::put_u32(out, start, buffer_size);
     let behind_offset = store::put_u64(out, behind_buffer_size, offset);
     let behind_handle = store::put_u64(out, behind_offset, handle);
-    store::finish(behind_handle)
+    writer::finish(behind_handle)
 }
 
 pub fn write_write(id: u32, data: &[u8], offset: u64, handle: u64, out: &mut [u8]) -> Written
@@ -209,7 +209,7 @@ pub fn write_write(id: u32, data: &[u8], offset: u64, handle: u64, out: &mut [u8
     let start = start_data(out, id, Method::WRITE, data, 16);
     let behind_offset = store::put_u64(out, start, offset);
     let behind_handle = store::put_u64(out, behind_offset, handle);
-    store::finish(behind_handle)
+    writer::finish(behind_handle)
 }
 
 pub fn write_mkdir(id: u32, path: &[u8], mode: u32, out: &mut [u8]) -> Written
@@ -217,28 +217,28 @@ pub fn write_mkdir(id: u32, path: &[u8], mode: u32, out: &mut [u8]) -> Written
 {
     let start = start_path(out, id, Method::MKDIR, path, 4);
     let behind_mode = store::put_u32(out, start, mode);
-    store::finish(behind_mode)
+    writer::finish(behind_mode)
 }
 
 pub fn write_readdir(id: u32, path: &[u8], out: &mut [u8]) -> Written
     ensures { λ r. ⌜ Wrote (asking methods.Readdir id (run (now (path .entry)) ∷ []) (now (out .entry))) (now (out .exit)) r ⌝ }
 {
     let start = start_path(out, id, Method::READDIR, path, 0);
-    store::finish(start)
+    writer::finish(start)
 }
 
 pub fn write_rmdir(id: u32, path: &[u8], out: &mut [u8]) -> Written
     ensures { λ r. ⌜ Wrote (asking methods.Rmdir id (run (now (path .entry)) ∷ []) (now (out .entry))) (now (out .exit)) r ⌝ }
 {
     let start = start_path(out, id, Method::RMDIR, path, 0);
-    store::finish(start)
+    writer::finish(start)
 }
 
 pub fn write_statfs(id: u32, path: &[u8], out: &mut [u8]) -> Written
     ensures { λ r. ⌜ Wrote (asking methods.Statfs id (run (now (path .entry)) ∷ []) (now (out .entry))) (now (out .exit)) r ⌝ }
 {
     let start = start_path(out, id, Method::STATFS, path, 0);
-    store::finish(start)
+    writer::finish(start)
 }
 
 pub fn write_utimens(
@@ -252,16 +252,16 @@ pub fn write_utimens(
     ensures { λ r. ⌜ Wrote (asking methods.Utimens id (run (now (path .entry)) ∷ number (atime .seconds) ∷ number (atime .nsec) ∷ number (mtime .seconds) ∷ number (mtime .nsec) ∷ number handle ∷ []) (now (out .entry))) (now (out .exit)) r ⌝ }
 {
     let start = start_path(out, id, Method::UTIMENS, path, 32);
-    let behind_atime = store::put_timestamp(out, start, atime);
-    let behind_mtime = store::put_timestamp(out, behind_atime, mtime);
+    let behind_atime = structures::put_timestamp(out, start, atime);
+    let behind_mtime = structures::put_timestamp(out, behind_atime, mtime);
     let behind_handle = store::put_u64(out, behind_mtime, handle);
-    store::finish(behind_handle)
+    writer::finish(behind_handle)
 }
 
 pub fn write_getcreds(id: u32, out: &mut [u8]) -> Written
     ensures { λ r. ⌜ Wrote (asking methods.Getcreds id [] (now (out .entry))) (now (out .exit)) r ⌝ }
 {
-    store::write_header(id, Method::GETCREDS, out)
+    writer::write_header(id, Method::GETCREDS, out)
 }
 
 // A request of a type that is no method's. A method's type is refused.
@@ -274,6 +274,6 @@ pub fn write_unknown(id: u32, kind: u8, out: &mut [u8]) -> Written
             number: 3,
             place: 0,
         },
-        Lookup::Unknown => store::write_header(id, kind, out),
+        Lookup::Unknown => writer::write_header(id, kind, out),
     }
 }

@@ -1,18 +1,16 @@
 -- What storing at a cursor means.
 use Prim.Native.Nat.{ℕ, _+_, _≤_}
 use mathlib.Core.Path.{_≡_}
-use mathlib.Core.Bool.{Bool, cond}
+use mathlib.Core.Bool.{cond}
 use mathlib.Core.List.{List, [], _∷_, _++_}
 use lib.Dec.{eqb, leb}
 use lib.ListN.{length}
 use Rattle.number.specs.BigEndian.{overwritten}
 use Rattle.layout.specs.Kinds.{Kind}
 use Rattle.layout.specs.Values.{Value}
-use Rattle.layout.specs.Limits.{oversize, malformedText, bufferTooSmall, longest}
-use Rattle.layout.specs.Writing.{encode, Told, stored, refused, Written as Outcome}
+use Rattle.layout.specs.Limits.{bufferTooSmall}
+use Rattle.layout.specs.Writing.{encode}
 use Rattle.field.specs.declared.Cursor.{Cursor}
-use Rattle.store.specs.declared.Written.{Written}
-use Rattle.store.specs.declared.Written.the-variants.{Stored as Stored·len, Refused}
 
 -- a place of the buffer
 abbrev pub place : ℕ → Cursor
@@ -61,27 +59,3 @@ pub data Fields : List ℕ → Cursor → List Kind → List (Value (List ℕ)) 
 abbrev pub concat : List (List ℕ) → List ℕ
 concat [] = []
 concat (e ∷ es) = e ++ concat es
-
--- where a message of `size` bytes is stored from: the start of a buffer of n bytes, or the refusal of what is checked before.
--- `textRight`: its texts are well-formed
-unfoldable pub admitted : Bool → ℕ → ℕ → Cursor
-admitted textRight size n =
-    cond textRight (cond (leb size longest) (cond (leb size n) (place 0) (refusal bufferTooSmall)) (refusal oversize)) (refusal malformedText)
-
--- what a writer tells when it ends at this cursor
-abbrev pub toldAt : Cursor → Told
-toldAt c = cond (eqb (c .code) 0) (stored (c .at)) (refused (c .code) (c .at))
-
--- what an answer tells
-abbrev pub toldOf : Written → Told
-toldOf (Stored·len n) = stored n
-toldOf (Refused n p) = refused n p
-
--- r is the answer of a writer that ends at c
-pub record Ends (c : Cursor) (r : Written) : Type 0 where
-  pub is : toldOf r ≡ toldAt c
-
--- a writer that left the buffer n and answered r did what w says
-pub record Wrote (w : Outcome) (n : List ℕ) (r : Written) : Type 0 where
-  pub tells : toldOf r ≡ w .told
-  pub leaves : n ≡ w .buffer

@@ -2,81 +2,14 @@
 // stays: a field that is stored at a refused cursor changes no byte. So a message is checked once, before its first byte is
 // stored, and written in straight lines.
 ghost use mathlib.Core.Path.{_≡_};
-ghost use mathlib.Core.Bool.{true};
-ghost use mathlib.Core.List.{[], _∷_, _++_};
+ghost use mathlib.Core.List.{[], _∷_};
 ghost use Prim.Native.Nat.{_+_, _≤_};
 ghost use lib.ListN.{length};
 ghost use Rattle.number.specs.BigEndian.{bytesOf, overwritten};
 ghost use Rattle.number.specs.TwosComplement.{bitsOf};
-ghost use Rattle.text.specs.Utf8.{wellFormed};
-ghost use Rattle.layout.specs.Kinds.{u32 as kind·u32, u64 as kind·u64, num};
-ghost use Rattle.layout.specs.Values.{number as natural};
-ghost use Rattle.layout.specs.Writing.{bit, storeChecked};
-ghost use Rattle.store.specs.Stored.{Ends, admitted, Room, Put, Puts, Fields, Wrote};
+ghost use Rattle.layout.specs.Writing.{bit};
+ghost use Rattle.store.specs.Stored.{Room, Put, Puts};
 use field::Cursor;
-use field::Timestamp;
-
-// What a writer answers: so many bytes were stored, or document 01's number of refusal, with its place.
-pub enum Written {
-    Stored { len: usize },
-    Refused { number: u8, place: usize },
-}
-
-// The answer of a writer that ends at this cursor.
-pub fn finish(c: Cursor) -> Written
-    ensures { λ r. ⌜ Ends c r ⌝ }
-{
-    let code = c.code;
-    let at = c.at;
-    if code != 0 {
-        return Written::Refused {
-            number: code,
-            place: at,
-        };
-    }
-    Written::Stored { len: at }
-}
-
-// All of `s` is well-formed text.
-pub fn is_text(s: &[u8]) -> bool
-    ensures { λ r. ⌜ r ≡ wellFormed (now (s .entry)) ⌝ }
-{
-    text::well_formed_end(s) == s.len()
-}
-
-// Where a message is stored from: the start of a buffer of `len` bytes, or the refusal of what is checked before its first byte.
-// `first` and `second` are the lengths of its runs, 0 for one that it does not have, and `rest` is the size of all else.
-pub fn admit(texts: bool, first: usize, second: usize, rest: usize, len: usize) -> Cursor
-    ensures { λ r. ⌜ r ≡ admitted texts (first + second + rest) len ⌝ }
-{
-    if texts {
-        return measured(first, second, rest, len);
-    }
-    Cursor { code: 5, at: 0 }
-}
-
-// The tests of each length keep the sum from wrapping.
-fn measured(first: usize, second: usize, rest: usize, len: usize) -> Cursor
-    ensures { λ r. ⌜ r ≡ admitted true (first + second + rest) len ⌝ }
-{
-    if 65536 < first {
-        return Cursor { code: 2, at: 0 };
-    }
-    if 65536 < second {
-        return Cursor { code: 2, at: 0 };
-    }
-    if 65536 < rest {
-        return Cursor { code: 2, at: 0 };
-    }
-    let size = first + second + rest;
-    if 65536 < size {
-        return Cursor { code: 2, at: 0 };
-    }
-    if len < size {
-        return Cursor { code: 7, at: 0 };
-    }
-    Cursor { code: 0, at: 0 }
-}
 
 // The cursor, or refusal 7 where `size` bytes at it do not fit into `len`.
 fn room(c: Cursor, size: usize, len: usize) -> Cursor
@@ -212,21 +145,4 @@ pub fn put_header(out: &mut [u8], c: Cursor, id: u32, kind: u8) -> Cursor
 {
     let first = put_u32(out, c, id);
     put_u8(out, first, kind)
-}
-
-// A timestamp: its seconds, then its nanoseconds.
-pub fn put_timestamp(out: &mut [u8], c: Cursor, time: Timestamp) -> Cursor
-    ensures { λ r. ⌜ Fields (now (out .entry)) c (num kind·u64 ∷ num kind·u32 ∷ []) (natural (time .seconds) ∷ natural (time .nsec) ∷ []) (now (out .exit)) r ⌝ }
-{
-    let seconds = put_u64(out, c, time.seconds);
-    put_u32(out, seconds, time.nsec)
-}
-
-// A message that is its header alone.
-pub fn write_header(id: u32, kind: u8, out: &mut [u8]) -> Written
-    ensures { λ r. ⌜ Wrote (storeChecked (bytesOf 4 id ++ (bytesOf 1 kind ++ [])) (now (out .entry))) (now (out .exit)) r ⌝ }
-{
-    let place = admit(true, 0, 0, 5, out.len());
-    let header = put_header(out, place, id, kind);
-    finish(header)
 }

@@ -1,7 +1,7 @@
 // Listings of requests.
 use display::lent;
 use display::print;
-use store::Written;
+use writer::Written;
 
 pub fn show_all() {
     show_numbers();

@@ -2,7 +2,7 @@
 use display::lent;
 use display::print;
 use display::replies;
-use store::Written;
+use writer::Written;
 
 pub fn show_all() {
     types();

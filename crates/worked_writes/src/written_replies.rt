@@ -6,7 +6,7 @@ use display::taken_names;
 use field::Attributes;
 use field::Statistics;
 use field::Timestamp;
-use store::Written;
+use writer::Written;
 
 pub fn show_all() {
     print::put(b"replies, written and read back:\n");

@@ -3,7 +3,7 @@ use display::lent;
 use display::print;
 use display::requests;
 use field::Timestamp;
-use store::Written;
+use writer::Written;
 
 pub fn show_all() {
     print::put(b"requests, written and read back:\n");

@@ -1,0 +1,178 @@
+// The texts and the data of a request that was read, each as a part of the message itself.
+ghost use mathlib.Core.Path.{_≡_};
+ghost use Rattle.layout.specs.Table.{request as request·side};
+ghost use Rattle.layout.specs.Parts.{partNamed};
+ghost use Rattle.field.specs.Cursors.{partOf, shown};
+ghost use Rattle.request_reader.specs.Answers.{answerOf};
+ghost use Rattle.request_parts.specs.Parts.{partsOf, partsNamed, partsOfRequest, onlyPath, onlyData, twoPaths, linkPaths, noParts};
+use field::Run;
+use request_reader::Request;
+use request_reader::RequestAnswer;
+
+// The runs of a request by the names of its fields; a run that it does not have is empty.
+struct Runs {
+    path: Run,
+    target: Run,
+    linkpath: Run,
+    old_path: Run,
+    new_path: Run,
+    data: Run,
+}
+
+fn no_runs() -> Runs
+    ensures { λ r. ⌜ partsOf r ≡ noParts ⌝ }
+{
+    let none = Run { start: 0, len: 0 };
+    Runs {
+        path: none,
+        target: none,
+        linkpath: none,
+        old_path: none,
+        new_path: none,
+        data: none,
+    }
+}
+
+fn only_path(path: Run) -> Runs
+    ensures { λ r. ⌜ partsOf r ≡ onlyPath (partOf path) ⌝ }
+{
+    let none = Run { start: 0, len: 0 };
+    Runs {
+        path,
+        target: none,
+        linkpath: none,
+        old_path: none,
+        new_path: none,
+        data: none,
+    }
+}
+
+fn only_data(data: Run) -> Runs
+    ensures { λ r. ⌜ partsOf r ≡ onlyData (partOf «data») ⌝ }
+{
+    let none = Run { start: 0, len: 0 };
+    Runs {
+        path: none,
+        target: none,
+        linkpath: none,
+        old_path: none,
+        new_path: none,
+        data,
+    }
+}
+
+fn link_paths(target: Run, linkpath: Run) -> Runs
+    ensures { λ r. ⌜ partsOf r ≡ linkPaths (partOf target) (partOf linkpath) ⌝ }
+{
+    let none = Run { start: 0, len: 0 };
+    Runs {
+        path: none,
+        target,
+        linkpath,
+        old_path: none,
+        new_path: none,
+        data: none,
+    }
+}
+
+fn two_paths(old_path: Run, new_path: Run) -> Runs
+    ensures { λ r. ⌜ partsOf r ≡ twoPaths (partOf «old_path») (partOf «new_path») ⌝ }
+{
+    let none = Run { start: 0, len: 0 };
+    Runs {
+        path: none,
+        target: none,
+        linkpath: none,
+        old_path,
+        new_path,
+        data: none,
+    }
+}
+
+fn runs_of_request(request: Request) -> Runs
+    ensures { λ r. ⌜ partsOf r ≡ partsOfRequest request ⌝ }
+{
+    match request {
+        Request::Access { path, .. } => only_path(path),
+        Request::Getattr { path } => only_path(path),
+        Request::Readlink { path } => only_path(path),
+        Request::Symlink { target, linkpath } => link_paths(target, linkpath),
+        Request::Link { old_path, new_path } => two_paths(old_path, new_path),
+        Request::Rename {
+            old_path,
+            new_path,
+            ..
+        } => two_paths(old_path, new_path),
+        Request::Chmod { path, .. } => only_path(path),
+        Request::Chown { path, .. } => only_path(path),
+        Request::Truncate { path, .. } => only_path(path),
+        Request::Fsync { path, .. } => only_path(path),
+        Request::Open { path, .. } => only_path(path),
+        Request::Mknod { path, .. } => only_path(path),
+        Request::Create { path, .. } => only_path(path),
+        Request::Release { path, .. } => only_path(path),
+        Request::Unlink { path } => only_path(path),
+        Request::Read { path, .. } => only_path(path),
+        Request::Write { data, .. } => only_data(data),
+        Request::Mkdir { path, .. } => only_path(path),
+        Request::Readdir { path } => only_path(path),
+        Request::Rmdir { path } => only_path(path),
+        Request::Statfs { path } => only_path(path),
+        Request::Utimens { path, .. } => only_path(path),
+        Request::Getcreds => no_runs(),
+    }
+}
+
+fn runs_of(answer: RequestAnswer) -> Runs
+    ensures { λ r. ⌜ partsOf r ≡ partsNamed (answerOf answer) ⌝ }
+{
+    match answer {
+        RequestAnswer::Known { request, .. } => runs_of_request(request),
+        RequestAnswer::Unknown { .. } => no_runs(),
+        RequestAnswer::Refused { .. } => no_runs(),
+    }
+}
+
+// The bytes of each text and of the data, as a part of the message that was answered so. A message without that field, and one
+// that was refused, gives the empty part.
+pub fn path<'a>(m: &'a [u8], answer: RequestAnswer) -> &'a [u8]
+    ensures { λ s. ⌜ now s ≡ shown (now (m .entry)) (partNamed request·side "path" (answerOf answer)) ⌝ }
+{
+    let runs = runs_of(answer);
+    field::bytes_of(m, runs.path)
+}
+
+pub fn target<'a>(m: &'a [u8], answer: RequestAnswer) -> &'a [u8]
+    ensures { λ s. ⌜ now s ≡ shown (now (m .entry)) (partNamed request·side "target" (answerOf answer)) ⌝ }
+{
+    let runs = runs_of(answer);
+    field::bytes_of(m, runs.target)
+}
+
+pub fn linkpath<'a>(m: &'a [u8], answer: RequestAnswer) -> &'a [u8]
+    ensures { λ s. ⌜ now s ≡ shown (now (m .entry)) (partNamed request·side "linkpath" (answerOf answer)) ⌝ }
+{
+    let runs = runs_of(answer);
+    field::bytes_of(m, runs.linkpath)
+}
+
+pub fn old_path<'a>(m: &'a [u8], answer: RequestAnswer) -> &'a [u8]
+    ensures { λ s. ⌜ now s ≡ shown (now (m .entry)) (partNamed request·side "old_path" (answerOf answer)) ⌝ }
+{
+    let runs = runs_of(answer);
+    field::bytes_of(m, runs.old_path)
+}
+
+pub fn new_path<'a>(m: &'a [u8], answer: RequestAnswer) -> &'a [u8]
+    ensures { λ s. ⌜ now s ≡ shown (now (m .entry)) (partNamed request·side "new_path" (answerOf answer)) ⌝ }
+{
+    let runs = runs_of(answer);
+    field::bytes_of(m, runs.new_path)
+}
+
+pub fn data<'a>(m: &'a [u8], answer: RequestAnswer) -> &'a [u8]
+    ensures { λ s. ⌜ now s ≡ shown (now (m .entry)) (partNamed request·side "data" (answerOf answer)) ⌝ }
+{
+    let runs = runs_of(answer);
+    field::bytes_of(m, runs.data)
+}
