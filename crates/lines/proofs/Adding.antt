@@ -6,10 +6,11 @@ use native.Mathlib.Omega.{arith}
 use lib.ListN.{length, take, drop}
 use lib.Seq.{take-at}
 use Rattle.number.specs.BigEndian.{overwritten}
+use Rattle.text.specs.Ascii.{ascii}
 use Rattle.field.specs.declared.Cursor.{Cursor}
 use Rattle.store.specs.Stored.{place, Put, none, more, concat}
 use Rattle.store.proofs.Storing.{puts-then, each-put}
-use Rattle.lines.specs.Lines.{ascii, Line, lineText, text, Adds, AddsLine, AddsLines, none as no-line, more as a-line}
+use Rattle.lines.specs.Lines.{Line, lineText, text, Adds, AddsLine, AddsLines, none as no-line, more as a-line}
 
 concat-then : (es fs : List (List ℕ)) → concat (es ++ fs) ≡ concat es ++ concat fs
 concat-then [] fs = refl

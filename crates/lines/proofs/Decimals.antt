@@ -15,7 +15,8 @@ use mir.Val.{SFits}
 use borrow.Author.Tests.{lt-ltb, le-ltb, ltb-true}
 use Rattle.io.specs.Digits.{glyph, digits, Fewest}
 use Rattle.number.specs.TwosComplement.{bitsOf}
-use Rattle.lines.specs.Lines.{ascii, places, decimal, integer}
+use Rattle.text.specs.Ascii.{ascii}
+use Rattle.lines.specs.Lines.{places, decimal, integer}
 
 power : {i j : ℕ} → i ≤ j → 10 ^ i ≤ 10 ^ j
 power h = pow-le-pow-right (lit< tt) h

@@ -1,20 +1,14 @@
 -- Text in lines: names, numbers in decimal, and what adding text at a cursor means.
 use Prim.Native.Nat.{ℕ, zero, suc, _^_}
-use Prim.Native.Char.{code}
-use Prim.Native.String.{String, [] as no-char, _∷_ as _then_}
 use mathlib.Core.Path.{_≡_}
 use mathlib.Core.Bool.{cond}
 use mathlib.Core.List.{List, [], _∷_, _++_}
 use lib.Dec.{ltb}
 use lib.IntN.{ℤ, pos, negsuc}
 use Rattle.io.specs.Digits.{digits}
+use Rattle.text.specs.Ascii.{ascii}
 use Rattle.field.specs.declared.Cursor.{Cursor}
 use Rattle.store.specs.Stored.{Puts, concat}
-
--- the bytes of a text of ASCII characters
-abbrev pub ascii : String → List ℕ
-ascii no-char = []
-ascii (c then s) = code c ∷ ascii s
 
 -- the first of k, k + 1, .. that is enough digits for n; the last of f steps is taken untested
 abbrev pub places : ℕ → ℕ → ℕ → ℕ

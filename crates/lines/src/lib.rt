@@ -1,12 +1,11 @@
 // Text in lines, added at a cursor of a lent buffer: numbers in decimal, and lines of names and numbers.
 ghost use mathlib.Core.List.{[], _∷_, _++_};
+ghost use Rattle.text.specs.Ascii.{ascii};
 ghost use Rattle.layout.specs.Writing.{bit};
 ghost use Rattle.store.specs.Stored.{Put};
-ghost use Rattle.lines.specs.Lines.{ascii, decimal, integer, Adds, AddsLine, AddsLines};
-ghost use Rattle.lines.specs.Names.{nameOf};
+ghost use Rattle.lines.specs.Lines.{decimal, integer, Adds, AddsLine, AddsLines};
 use field::Cursor;
 use field::Timestamp;
-use method::Method;
 
 // A number in decimal.
 pub fn put_decimal(out: &mut [u8], c: Cursor, n: u64) -> Cursor
@@ -81,35 +80,4 @@ pub fn put_pair(out: &mut [u8], c: Cursor, first: &[u8], a: u64, second: &[u8], 
     let behind_first = put_entry(out, c, first, a);
     let behind_space = store::put_all(out, behind_first, b" ");
     put_number(out, behind_space, second, b)
-}
-
-// The name of a method.
-pub fn put_name(out: &mut [u8], c: Cursor, method: Method) -> Cursor
-    ensures { λ r. ⌜ Put (now (out .entry)) c (ascii (nameOf method)) (now (out .exit)) r ⌝ }
-{
-    match method {
-        Method::Access => store::put_all(out, c, b"access"),
-        Method::Getattr => store::put_all(out, c, b"getattr"),
-        Method::Readlink => store::put_all(out, c, b"readlink"),
-        Method::Symlink => store::put_all(out, c, b"symlink"),
-        Method::Link => store::put_all(out, c, b"link"),
-        Method::Rename => store::put_all(out, c, b"rename"),
-        Method::Chmod => store::put_all(out, c, b"chmod"),
-        Method::Chown => store::put_all(out, c, b"chown"),
-        Method::Truncate => store::put_all(out, c, b"truncate"),
-        Method::Fsync => store::put_all(out, c, b"fsync"),
-        Method::Open => store::put_all(out, c, b"open"),
-        Method::Mknod => store::put_all(out, c, b"mknod"),
-        Method::Create => store::put_all(out, c, b"create"),
-        Method::Release => store::put_all(out, c, b"release"),
-        Method::Unlink => store::put_all(out, c, b"unlink"),
-        Method::Read => store::put_all(out, c, b"read"),
-        Method::Write => store::put_all(out, c, b"write"),
-        Method::Mkdir => store::put_all(out, c, b"mkdir"),
-        Method::Readdir => store::put_all(out, c, b"readdir"),
-        Method::Rmdir => store::put_all(out, c, b"rmdir"),
-        Method::Statfs => store::put_all(out, c, b"statfs"),
-        Method::Utimens => store::put_all(out, c, b"utimens"),
-        Method::Getcreds => store::put_all(out, c, b"getcreds"),
-    }
 }

@@ -2,7 +2,7 @@
 use field::Run;
 use libc::STDIN_FILENO;
 use libc::STDOUT_FILENO;
-use store::Written;
+use writer::Written;
 
 // One byte more than the longest message is enough to know that a message is oversize, also of an endless input.
 fn main() {

@@ -1,16 +1,17 @@
 -- From the lines that were added to the listing. Assumes nothing.
 use mathlib.Core.Path.{_≡_, refl, sym, ap, subst, _∙_}
-use mathlib.Core.List.{List, [], _∷_, _++_}
-use Prim.Native.Nat.{ℕ, _+_, _≤_, _<_}
+use mathlib.Core.List.{List, [], _∷_}
+use Prim.Native.Nat.{ℕ, _+_, _≤_}
 use native.Mathlib.Decide.{decLe}
 use native.Mathlib.Omega.{arith}
-use lib.Dec.{leb, eqb}
+use lib.Dec.{leb}
 use lib.ListN.{length, take, getD, length-take}
 use mir.Syntax.{w8}
 use mir.Val.{Fits}
 use borrow.Author.Tests.{le-leb, lt-leb}
 use Rattle.number.specs.BigEndian.{overwritten}
-use Rattle.method.specs.Methods.{Found, found, unknown as no-method, ofRequest, requestNumber}
+use Rattle.text.specs.Ascii.{ascii}
+use Rattle.method.specs.Methods.{Found, unknown as no-method, ofRequest}
 use Rattle.method.proofs.Table.{request-found}
 use Rattle.layout.specs.Table.{request, requestPlan, plan}
 use Rattle.layout.specs.Values.{Part, Value}
@@ -23,10 +24,11 @@ use Rattle.field.specs.declared.Cursor.{Cursor}
 use Rattle.request_reader.specs.declared.RequestAnswer.{RequestAnswer}
 use Rattle.request_reader.specs.declared.RequestAnswer.the-variants.{Known, Unknown, Refused}
 use Rattle.request_reader.specs.Answers.{methodOf, answerOf}
-use Rattle.store.specs.declared.Written.{Written}
-use Rattle.store.specs.Stored.{Stored, left, place, refusal, roomAt, Put, toldOf, Ends, Wrote}
+use Rattle.writer.specs.declared.Written.{Written}
+use Rattle.store.specs.Stored.{Stored, left, place, refusal, roomAt, Put}
+use Rattle.writer.specs.Writers.{toldOf, Ends, Wrote}
 use Rattle.store.proofs.Storing.{all-put}
-use Rattle.lines.specs.Lines.{ascii, decimal, text, Adds, AddsLine, AddsLines}
+use Rattle.lines.specs.Lines.{text, Adds, AddsLine, AddsLines}
 use Rattle.lines.proofs.Adding.{put-adds, adds-then, lines-add, added}
 use Rattle.listing.specs.Listing.{listing, listed, longestListing}
 use Rattle.listing.specs.Rendered.{answerLines, Rendered}

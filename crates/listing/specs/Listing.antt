@@ -3,32 +3,18 @@ use Prim.Native.Nat.{ℕ}
 use mathlib.Core.List.{List, [], _∷_, _++_}
 use lib.Dec.{leb}
 use lib.ListN.{length}
+use Rattle.text.specs.Ascii.{ascii}
 use Rattle.method.specs.Methods.{Found, found, unknown as no-method, ofRequest}
-use Rattle.layout.specs.Kinds.{Field}
 use Rattle.layout.specs.Limits.{bufferTooSmall}
 use Rattle.layout.specs.Table.{request}
-use Rattle.layout.specs.Values.{Part, Value, number, signed, truth, run, runs}
 use Rattle.layout.specs.Reading.{Answer, refused, accepted, read}
 use Rattle.layout.specs.Parts.{fieldsOf}
-use Rattle.layout.specs.Writing.{bit, Written, check, store}
-use Rattle.lines.specs.Lines.{ascii, decimal, integer, Line, text}
-use Rattle.lines.specs.Names.{nameOf}
+use Rattle.layout.specs.Writing.{Written, check, store}
+use Rattle.lines.specs.Lines.{decimal, Line, text}
+use Rattle.method_names.specs.Names.{nameOf}
+use Rattle.request_lines.specs.FieldLines.{fieldLines}
 
 -- ---- lines that requests and replies share
-
--- a value: a number in decimal, a bool as 0 or 1, text and bytes as their length, names as their count
-abbrev pub shown : Value Part → List ℕ
-shown (number n) = decimal n
-shown (signed z) = integer z
-shown (truth b) = decimal (bit b)
-shown (run x) = decimal (x .size)
-shown (runs xs) = decimal (length xs)
-
--- one line a field: its name and its value
-abbrev pub fieldLines : List Field → List (Value Part) → List Line
-fieldLines [] vs = []
-fieldLines (f ∷ fs) [] = []
-fieldLines (f ∷ fs) (v ∷ vs) = (ascii (f .name) ∷ shown v ∷ []) ∷ fieldLines fs vs
 
 -- the known length, and the whole length
 abbrev pub closingLine : ℕ → ℕ → Line

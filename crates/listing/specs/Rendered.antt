@@ -4,21 +4,15 @@ use mathlib.Core.Path.{_≡_}
 use mathlib.Core.List.{List, [], _∷_, _++_}
 use lib.ListN.{take}
 use Rattle.io.specs.Counts.{Counts}
-use Rattle.method.specs.declared.Method.{Method}
 use Rattle.method.specs.Methods.{found, unknown as no-method}
 use Rattle.layout.specs.Table.{row}
-use Rattle.layout.specs.Values.{Part, Value}
-use Rattle.field.specs.declared.Cursor.{Cursor}
 use Rattle.request_reader.specs.declared.Request.{Request}
 use Rattle.request_reader.specs.declared.RequestAnswer.{RequestAnswer}
 use Rattle.request_reader.specs.declared.RequestAnswer.the-variants.{Known, Unknown, Refused}
 use Rattle.request_reader.specs.Answers.{methodOf, typeOf, valuesOf}
-use Rattle.lines.specs.Lines.{Line, AddsLines}
-use Rattle.listing.specs.Listing.{fieldLines, closingLine, refusalLine, firstLine, listing}
-
--- the fields of a method's request with these values
-abbrev pub AddsFields : List ℕ → Cursor → Method → List (Value Part) → List ℕ → Cursor → Type 0
-AddsFields l c x vs n d = AddsLines l c (fieldLines (row x .request) vs) n d
+use Rattle.lines.specs.Lines.{Line}
+use Rattle.request_lines.specs.FieldLines.{fieldLines}
+use Rattle.listing.specs.Listing.{closingLine, refusalLine, firstLine, listing}
 
 abbrev pub knownLines : ℕ → Request → ℕ → ℕ → List Line
 knownLines i q k whole = firstLine (found (methodOf q)) (typeOf q) i ∷ (fieldLines (row (methodOf q) .request) (valuesOf q) ++ (closingLine k whole ∷ []))
