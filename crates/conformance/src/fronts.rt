@@ -15,16 +15,11 @@ fn show_answer(line: &mut [u8], fronted: Fronted, out: &[u8]) -> usize {
     match fronted {
         Fronted::HandedOn => show_handed_on(line, out),
         Fronted::Stored { len } => print::stored(line, len, out),
-        Fronted::Refused { number } => show_refused(line, number, out),
+        Fronted::Refused { number, place } => print::refused_with(line, number, place, out),
     }
 }
 
 fn show_handed_on(line: &mut [u8], out: &[u8]) -> usize {
     let checksum = print::hash(out);
     print::show_from(line, 0, b"handed-on %", &[checksum])
-}
-
-fn show_refused(line: &mut [u8], number: u8, out: &[u8]) -> usize {
-    let checksum = print::hash(out);
-    print::show_from(line, 0, b"refused % %", &[number as u64, checksum])
 }

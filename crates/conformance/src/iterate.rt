@@ -4,17 +4,19 @@ use field::Run;
 use names::Position;
 use names::Step;
 
-// How far the names are taken: the line's `at`, the iterator's position, the names so far and their checksum, and whether the iterator has
-// said that there is no more.
+// How far the names are taken: the line's `at`, the iterator's position, the names so far and their checksum, whether those that were asked
+// for by number had the same bytes, and whether the iterator has said that there is no more.
 struct Taken {
     at: usize,
     position: Position,
     count: u64,
     checksum: u64,
+    agrees: bool,
     is_ended: bool,
 }
 
-// Shows the first 200 names singly, then the count and the checksum of all, and whether the iterator stays at its end.
+// Shows the first 200 names singly, then the count and the checksum of all, and whether the iterator stays at its end and a name by its
+// number is the same.
 pub fn show(line: &mut [u8], at: usize, m: &[u8]) -> usize {
     let taken = take_names(line, at, m);
     let behind_count = print::show_from(
@@ -23,7 +25,7 @@ pub fn show(line: &mut [u8], at: usize, m: &[u8]) -> usize {
         b" names=%:%",
         &[taken.count, taken.checksum],
     );
-    if is_end(m, taken.position) && shows_no_bytes(m, taken.count) {
+    if taken.agrees && is_end(m, taken.position) && shows_no_bytes(m, taken.count) {
         return print::put(line, behind_count, b" end");
     }
     print::put(line, behind_count, b" again")
@@ -37,6 +39,7 @@ fn take_names(line: &mut [u8], at: usize, m: &[u8]) -> Taken {
         position,
         count: 0,
         checksum: 0,
+        agrees: true,
         is_ended: false,
     };
     let mut turns = m.len();
@@ -54,26 +57,40 @@ fn take_next(line: &mut [u8], m: &[u8], taken: Taken) -> Taken {
     let step = names_iterator::step_from(m, taken.position);
     match step {
         Step::Name { run, next } => {
-            let checksum = print::hash(name_of(m, step, taken.count));
-            show_name(line, taken, run, checksum, next)
+            let checksum = print::hash(names::name(m, step));
+            let counted = counted(taken, is_same_by_number(m, taken.count, checksum));
+            show_name(line, counted, run, checksum, next)
         }
         Step::End { position } => Taken {
             at: taken.at,
             position,
             count: taken.count,
             checksum: taken.checksum,
+            agrees: taken.agrees,
             is_ended: true,
         },
     }
 }
 
-// The bytes of the first names are asked for by number, which opens an iterator and passes over the names before. Only of the first, because
-// each such call reads the message again.
-fn name_of<'a>(m: &'a [u8], step: Step, count: u64) -> &'a [u8] {
-    if count < 4 {
-        return names_iterator::nth_name(m, count as u32);
+// The first names are asked for by number too, which opens an iterator and passes over the names before. Only the first, because each such
+// call reads the message again.
+fn is_same_by_number(m: &[u8], count: u64, checksum: u64) -> bool {
+    if count < 64 {
+        return print::hash(names_iterator::nth_name(m, count as u32)) == checksum;
     }
-    names::name(m, step)
+    true
+}
+
+fn counted(taken: Taken, is_same: bool) -> Taken {
+    let position = taken.position;
+    Taken {
+        at: taken.at,
+        position,
+        count: taken.count,
+        checksum: taken.checksum,
+        agrees: taken.agrees & is_same,
+        is_ended: taken.is_ended,
+    }
 }
 
 // The remainder changes nothing, since a message has far fewer names. It keeps the sum in range.
@@ -86,6 +103,7 @@ fn show_name(line: &mut [u8], taken: Taken, run: Run, checksum: u64, next: Posit
         position: next,
         count: taken.count % 0x1_0000_0000 + 1,
         checksum: print::hash_number(with_len, checksum),
+        agrees: taken.agrees,
         is_ended: false,
     }
 }

@@ -177,7 +177,7 @@ pub fn refused(line: &mut [u8], number: u8, place: usize) -> usize {
 pub fn written(line: &mut [u8], w: Written, out: &[u8]) -> usize {
     match w {
         Written::Stored { len } => stored(line, len, out),
-        Written::Refused { number, place } => refused_by_writer(line, number, place, out),
+        Written::Refused { number, place } => refused_with(line, number, place, out),
     }
 }
 
@@ -187,7 +187,8 @@ pub fn stored(line: &mut [u8], len: usize, out: &[u8]) -> usize {
     show_from(line, 0, b"stored % % %", &[len as u64, of_bytes, of_rest])
 }
 
-fn refused_by_writer(line: &mut [u8], number: u8, place: usize, out: &[u8]) -> usize {
+// A refusal, and the lent buffer afterwards.
+pub fn refused_with(line: &mut [u8], number: u8, place: usize, out: &[u8]) -> usize {
     let checksum = hash(out);
     show_from(
         line,

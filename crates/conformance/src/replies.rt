@@ -14,9 +14,10 @@ pub fn show(body: &[u8], given: &mut [u8], line: &mut [u8]) -> usize {
     let len = cases::message_at(body, cases::start(), given);
     let m = cases::part(given, len);
     let answer = reply_reader::read_reply(m);
-    let shown = shown_answer(answer, sums_of(m, answer));
-    let at = show_row(line, shown);
-    iterate::show(line, at, m)
+    let sums = sums_of(m, answer);
+    let at = show_row(line, shown_answer(answer, sums));
+    let behind_parts = print::show_from(line, at, b" parts=%", &[sum_of(sums)]);
+    iterate::show(line, behind_parts, m)
 }
 
 // Row 0 is the unknown response, then each method by its request's number, then a failure and a refusal.
@@ -70,6 +71,13 @@ fn sums_of(m: &[u8], answer: ReplyAnswer) -> Sums {
         data,
         creds,
     }
+}
+
+// The checksum of all of them.
+fn sum_of(sums: Sums) -> u64 {
+    let with_resolved = print::hash_number(0, sums.resolved);
+    let with_data = print::hash_number(with_resolved, sums.data);
+    print::hash_number(with_data, sums.creds)
 }
 
 fn shown_answer(answer: ReplyAnswer, sums: Sums) -> Shown {

@@ -12,8 +12,9 @@ pub fn show(body: &[u8], given: &mut [u8], line: &mut [u8]) -> usize {
     let len = cases::message_at(body, cases::start(), given);
     let m = cases::part(given, len);
     let answer = request_reader::read_request(m);
-    let shown = shown_answer(answer, sums_of(m, answer));
-    show_row(line, shown)
+    let sums = sums_of(m, answer);
+    let at = show_row(line, shown_answer(answer, sums));
+    print::show_from(line, at, b" parts=%", &[sum_of(sums)])
 }
 
 // Row 0 is a request of no method, then each method by its number, then a refusal.
@@ -75,6 +76,16 @@ fn sums_of(m: &[u8], answer: RequestAnswer) -> Sums {
         new_path,
         data,
     }
+}
+
+// The checksum of all of them.
+fn sum_of(sums: Sums) -> u64 {
+    let with_path = print::hash_number(0, sums.path);
+    let with_target = print::hash_number(with_path, sums.target);
+    let with_linkpath = print::hash_number(with_target, sums.linkpath);
+    let with_old_path = print::hash_number(with_linkpath, sums.old_path);
+    let with_new_path = print::hash_number(with_old_path, sums.new_path);
+    print::hash_number(with_new_path, sums.data)
 }
 
 fn shown_answer(answer: RequestAnswer, sums: Sums) -> Shown {

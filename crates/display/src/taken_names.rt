@@ -75,7 +75,7 @@ fn show_from(label: &[u8], m: &[u8], start: Position, steps: u32) {
 
 // The next name, or the end. Answers the position behind it.
 fn show_step(m: &[u8], position: Position) -> Position {
-    let step = names::next(m, position);
+    let step = names_iterator::step_from(m, position);
     match step {
         Step::Name { run, next } => {
             print::run(b"name", run);

@@ -20,7 +20,7 @@ outcome c a = cond (eqb (c .code) 0) (got a (c .at)) (fail (c .code) (c .at))
 abbrev pub from : {A : Type 0} → Cursor → Reader A → List ℕ → Outcome A
 from c r m = cond (eqb (c .code) 0) (r m (c .at)) (fail (c .code) (c .at))
 
--- the reader r at c gave a and left d
+-- the reader r at c gave a and left d; where d is a refusal, a is free
 pub record Ended {A : Type 0} (m : List ℕ) (c : Cursor) (r : Reader A) (a : A) (d : Cursor) : Type 0 where
   pub is : outcome d a ≡ from c r m
 

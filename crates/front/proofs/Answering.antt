@@ -76,7 +76,7 @@ header-whole m {n} q a = go (decLt (length m) 5)
     go (no h) = omega arith
 
 module _ (m l : List ℕ) {n : ℕ} (q : RefusedWith m n) where
-  pub header-refused : n ≡ 1 → {r : Fronted} → actOf r ≡ refused 1 → Fronts (front m l) l r
+  pub header-refused : n ≡ 1 → {r : Fronted} → actOf r ≡ refused 1 0 → Fronts (front m l) l r
   unfolding front
   header-refused e a = record { acts = rw (q .is, e) a; leaves = rw (q .is, e) }
 

@@ -13,12 +13,12 @@ use Rattle.front.specs.declared.Fronted.the-variants.{HandedOn, Stored, 
 abbrev pub actOf : Fronted → Act
 actOf HandedOn = handed-on
 actOf (Stored n) = stored n
-actOf (Refused n) = refused n
+actOf (Refused n p) = refused n p
 
 -- the act of a front whose writer told this
 abbrev pub actTold : Told → Act
 actTold (told-stored n) = stored n
-actTold (told-refused n p) = refused n
+actTold (told-refused n p) = refused n p
 
 -- a front that left the buffer n and answered r did what w says
 pub record Fronts (w : Outcome) (n : List ℕ) (r : Fronted) : Type 0 where

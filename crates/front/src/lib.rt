@@ -10,11 +10,12 @@ use field::Cursor;
 use request_reader::RequestAnswer;
 use writer::Written;
 
-// What the front tells: the request is handed on, so many bytes of a reply were stored, or document 01's number of refusal.
+// What the front tells: the request is handed on, so many bytes of a reply were stored, or document 01's number of refusal, with its
+// place.
 pub enum Fronted {
     HandedOn,
     Stored { len: usize },
-    Refused { number: u8 },
+    Refused { number: u8, place: usize },
 }
 
 // Answers a request into `out`, or hands it on. A refusal changes no byte of `out`.
@@ -35,7 +36,10 @@ fn answer_refused(request: &[u8], number: u8, out: &mut [u8]) -> Fronted
     ensures { λ r. ⌜ Fronts (layout·front (now (request .entry)) (now (out .entry))) (now (out .exit)) r ⌝ }
 {
     if number == 1 {
-        return Fronted::Refused { number: 1 };
+        return Fronted::Refused {
+            number: 1,
+            place: 0,
+        };
     }
     let header = header_of(request);
     if number == 2 {
@@ -84,6 +88,6 @@ fn told(written: Written) -> Fronted
 {
     match written {
         Written::Stored { len } => Fronted::Stored { len },
-        Written::Refused { number, .. } => Fronted::Refused { number },
+        Written::Refused { number, place } => Fronted::Refused { number, place },
     }
 }

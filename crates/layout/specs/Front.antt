@@ -7,6 +7,7 @@ use lib.IntN.{ℤ, negsuc}
 use lib.ListN.{length, take, drop}
 use Rattle.number.specs.BigEndian.{be, bytesOf}
 use Rattle.number.specs.TwosComplement.{bitsOf}
+use Rattle.method.specs.Methods.{replyOffset}
 use Rattle.layout.specs.Limits.{truncatedHeader, oversize, bufferTooSmall}
 use Rattle.layout.specs.Table.{request, unknownResponse}
 use Rattle.layout.specs.Reading.{Shape, unknown, known, failure, success, Answer, refused as not-read, accepted, read}
@@ -28,7 +29,7 @@ invalid = negsuc 21
 
 -- nine bytes: id, type plus 0x80, result -22
 unfoldable pub invalidReply : ℕ → ℕ → List ℕ
-invalidReply i t = bytesOf 4 i ++ (bytesOf 1 (t + 0x80) ++ bytesOf 4 (bitsOf 4 invalid))
+invalidReply i t = bytesOf 4 i ++ (bytesOf 1 (t + replyOffset) ++ bytesOf 4 (bitsOf 4 invalid))
 
 -- what a request calls for: it is handed on, refused, or answered with these bytes
 pub data Call : Type 0 where
@@ -42,14 +43,15 @@ called m (not-read n p) =
     (cond (eqb n oversize) (reply-with (unknownReply (idOf m))) (reply-with (invalidReply (idOf m) (typeOf m))))
 called m (accepted unknown i t vs k) = reply-with (unknownReply (idOf m))
 called m (accepted known i t vs k) = hand-on
+-- no request is read as one of these
 called m (accepted failure i t vs k) = hand-on
 called m (accepted success i t vs k) = hand-on
 
--- what the front tells: handed on, so many bytes stored, or refused with this number
+-- what the front tells: handed on, so many bytes stored, or refused with this number at this place
 pub data Act : Type 0 where
   handed-on : Act
   stored : ℕ → Act
-  refused : ℕ → Act
+  refused : ℕ → ℕ → Act
 
 -- and the lent buffer afterwards
 pub record Fronted : Type 0 where
@@ -59,12 +61,12 @@ pub record Fronted : Type 0 where
 abbrev pub done : Act → List ℕ → Fronted
 done a out = record { act = a; buffer = out }
 
--- a refusal changes nothing; otherwise the bytes stand in front of what stays of the buffer
+-- a refusal, at place 0, changes nothing; otherwise the bytes stand in front of what stays of the buffer
 abbrev pub settle : Call → List ℕ → Fronted
 settle hand-on out = done handed-on out
-settle (refuse n) out = done (refused n) out
+settle (refuse n) out = done (refused n 0) out
 settle (reply-with bs) out =
-    cond (leb (length bs) (length out)) (done (stored (length bs)) (bs ++ drop (length bs) out)) (done (refused bufferTooSmall) out)
+    cond (leb (length bs) (length out)) (done (stored (length bs)) (bs ++ drop (length bs) out)) (done (refused bufferTooSmall 0) out)
 
 unfoldable pub front : List ℕ → List ℕ → Fronted
 front m out = settle (called m (read request m)) out

@@ -17,7 +17,7 @@ width i32 = 4
 width u64 = 8
 width bool = 1
 
--- string and bytes: a u32 length, then so many bytes, of a string well-formed text. strings: a u32 count, then so many strings
+-- string: a u32 length, then so many bytes of well-formed text; bytes: the same of any bytes; strings: a u32 count, then so many strings
 pub data Kind : Type 0 where
   num : Num → Kind
   string bytes strings : Kind

@@ -50,7 +50,6 @@ stepBy m p (suc n) = stepped (position p (suc n)) n (bytesAt m p)
 unfoldable pub step : List ℕ → Position → Step
 step m w = stepBy m (w .at) (w .left)
 
--- so many names from place p on. For one that does not fit stands a part that no name has, so n names are always n
 abbrev pub nameOr : Outcome Part → Part
 nameOr (got x q) = x
 nameOr (fail c r) = part 0 0
@@ -59,6 +58,7 @@ abbrev pub behindName : ℕ → Outcome Part → ℕ
 behindName p (got x q) = q
 behindName p (fail c r) = p
 
+-- so many names from place p on. For one that does not fit stands a part that no name has, so n names are always n
 abbrev pub namesAt : ℕ → List ℕ → ℕ → List Part
 namesAt zero m p = []
 namesAt (suc n) m p = nameOr (bytesAt m p) ∷ namesAt n m (behindName p (bytesAt m p))

@@ -50,7 +50,7 @@ kindsOf (led c ks) success = num i32 ∷ ks
 unfoldable pub pieces : Side → Shape → ℕ → List (Value Part) → List Part
 pieces side s t vs = part 0 4 ∷ part 4 1 ∷ fieldsPieces (kindsOf (plan side t) s) vs headerSize
 
--- where the first piece begins that does not lie whole in the first j bytes
+-- where the first piece begins that does not lie whole in the first j bytes; 0 where all do, which no cut meets
 abbrev pub firstBroken : ℕ → List Part → ℕ
 firstBroken j [] = 0
 firstBroken j (x ∷ xs) = cond (leb (x .start + x .size) j) (firstBroken j xs) (x .start)

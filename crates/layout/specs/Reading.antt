@@ -105,7 +105,7 @@ dataSize [] = 0
 dataSize (v ∷ vs) = runOf (part 0 0) v .size
 
 -- where the result of a reply stands
-abbrev resultPlace : ℕ
+abbrev pub resultPlace : ℕ
 resultPlace = headerSize
 
 -- a success; where the result counts the data, it is compared when the data is whole

@@ -145,6 +145,11 @@ pub data Told : Type 0 where
   stored : ℕ → Told
   refused : ℕ → ℕ → Told
 
+-- the length that a writer reports: 0 where it refused
+abbrev pub lengthOf : Told → ℕ
+lengthOf (stored n) = n
+lengthOf (refused n p) = 0
+
 -- the answer, and the lent buffer afterwards
 pub record Written : Type 0 where
   pub told : Told

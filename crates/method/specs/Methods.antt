@@ -62,9 +62,12 @@ requestNumber Statfs = 0x15
 requestNumber Utimens = 0x16
 requestNumber Getcreds = 0x17
 
--- a reply number is the request number plus 0x80
+-- so much is a reply number above its request number
+abbrev pub replyOffset : ℕ
+replyOffset = 0x80
+
 abbrev pub replyNumber : Method → ℕ
-replyNumber m = requestNumber m + 0x80
+replyNumber m = requestNumber m + replyOffset
 
 -- what looking a number up finds
 pub data Found : Type 0 where

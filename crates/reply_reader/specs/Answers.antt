@@ -11,7 +11,7 @@ use Rattle.method.specs.Methods.{replyNumber}
 use Rattle.layout.specs.Limits.{unexpectedType, dataLengthMismatch}
 use Rattle.layout.specs.Table.{unknownResponse, reply, Plan, unexpected, header, asked, plain, led, plan}
 use Rattle.layout.specs.Values.{Part, Value, number, signed, run, runs}
-use Rattle.layout.specs.Reading.{Outcome, got, fail, Reader, mapped, unknown, failure, success, Body, body, behindResult, typePlace, bodyAt, message, Answer, refused, accepted, answer}
+use Rattle.layout.specs.Reading.{Outcome, got, fail, Reader, mapped, unknown, failure, success, Body, body, behindResult, typePlace, bodyAt, message, Answer, refused, accepted, answer, resultPlace}
 use Rattle.field.specs.declared.Cursor.{Cursor}
 use Rattle.field.specs.Cursors.{outcome, from, partOf}
 use Rattle.field.specs.Values.{attributesValues, statisticsValues, namesFrom}
@@ -84,7 +84,7 @@ answerOf m (A.Refused n p) = refused n p
 unfoldable pub answerAt : List ℕ → Cursor → ℕ → ℕ → Answer
 answerAt m c i t = answer (from c (mapped (message i t) (bodyAt (plan reply t))) m)
 
--- what follows a result
+-- what follows a result; of a type without one, which is never asked for, some refusal
 abbrev pub behind : Plan → ℤ → Reader Body
 behind unexpected z m p = fail unexpectedType typePlace
 behind header z m p = fail unexpectedType typePlace
@@ -102,4 +102,4 @@ pub record Finished (m : List ℕ) (i n : ℕ) (q : Reply) (c : Cursor) (a : Ans
 
 -- the cursor d behind data of so many bytes, and e after the result n was compared
 pub record Compared (d : Cursor) (size n : ℕ) (e : Cursor) : Type 0 where
-  pub is : (b : Body) → outcome e b ≡ from d (λ m p. cond (eqb n size) (got b p) (fail dataLengthMismatch 5)) []
+  pub is : (b : Body) → outcome e b ≡ from d (λ m p. cond (eqb n size) (got b p) (fail dataLengthMismatch resultPlace)) []

@@ -41,7 +41,7 @@ left m d = record { buffer = m; next = d }
 abbrev pub storeAt : Cursor → List ℕ → List ℕ → Stored
 storeAt d e l = cond (eqb (d .code) 0) (left (overwritten l (d .at) e) (place (d .at + length e))) (left l d)
 
--- the buffer l with the bytes e at c is m, and d is behind them
+-- storing the bytes e at c makes l into m, and d is behind them; at a refused c, and where e does not fit, m is l and d the refusal
 pub record Put (l : List ℕ) (c : Cursor) (e m : List ℕ) (d : Cursor) : Type 0 where
   pub is : left m d ≡ storeAt (roomAt c (length e) (length l)) e l
 

@@ -68,9 +68,8 @@ fn show_answer(out: &[u8], fronted: Fronted) -> usize {
             lent::show_stored(out, len);
             len
         }
-        Fronted::Refused { number } => {
-            print::put(b"refused ");
-            print::decimal(number as u64);
+        Fronted::Refused { number, place } => {
+            print::refused(number, place);
             0
         }
     }

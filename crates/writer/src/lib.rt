@@ -5,14 +5,26 @@ ghost use mathlib.Core.List.{[], _++_};
 ghost use Prim.Native.Nat.{_+_};
 ghost use Rattle.number.specs.BigEndian.{bytesOf};
 ghost use Rattle.text.specs.Utf8.{wellFormed};
-ghost use Rattle.layout.specs.Writing.{storeChecked};
-ghost use Rattle.writer.specs.Writers.{Ends, admitted, Wrote};
+ghost use Rattle.layout.specs.Writing.{lengthOf, storeChecked};
+ghost use Rattle.writer.specs.Writers.{toldOf, Ends, admitted, Wrote};
 use field::Cursor;
 
 // What a writer answers: so many bytes were stored, or document 01's number of refusal, with its place.
 pub enum Written {
     Stored { len: usize },
     Refused { number: u8, place: usize },
+}
+
+impl Written {
+    // How many bytes were stored: none where the writer refused.
+    pub fn len(self) -> usize
+        ensures { λ r. ⌜ r ≡ lengthOf (toldOf self) ⌝ }
+    {
+        match self {
+            Written::Stored { len } => len,
+            Written::Refused { .. } => 0,
+        }
+    }
 }
 
 // The answer of a writer that ends at this cursor.
