@@ -64,8 +64,8 @@ impl<'a> Cursor<'a> {
 
     /// Goes over the names and tells their count. The count is not believed:
     /// the first name that is missing ends the loop.
-    fn names(&mut self) -> Result<u32, Refusal> {
-        let count = self.number(4)? as u32;
+    fn names(&mut self) -> Result<u64, Refusal> {
+        let count = self.number(4)?;
         for _ in 0..count {
             self.text()?;
         }
@@ -82,7 +82,7 @@ impl<'a> Cursor<'a> {
             Kind::Bool => Value::Bool(self.number(1)? != 0),
             Kind::Text => Value::Part(self.text()?),
             Kind::Data => Value::Part(self.data()?),
-            Kind::Names => Value::Count(self.names()?),
+            Kind::Names => Value::Unsigned(self.names()?),
         })
     }
 

@@ -13,25 +13,25 @@ pub enum Front {
     HandedOn,
     /// So many bytes were stored in the reply buffer.
     Stored(usize),
-    /// The number of the refusal; nothing was stored.
-    Refused(u8),
+    /// Nothing was stored.
+    Refused(Refusal),
 }
 
 pub fn front(request: &[u8], buffer: &mut [u8]) -> Front {
     let stored = match read_request(request) {
         Request::Known { .. } => return Front::HandedOn,
         Request::Unknown { id, .. } => write_unknown_response(buffer, id),
-        Request::Refused(Refusal { number: TRUNCATED_HEADER, .. }) => {
-            return Front::Refused(TRUNCATED_HEADER)
+        Request::Refused(refusal) if refusal.number == TRUNCATED_HEADER => {
+            return Front::Refused(refusal)
         }
-        Request::Refused(Refusal { number: OVERSIZE, .. }) => {
+        Request::Refused(refusal) if refusal.number == OVERSIZE => {
             write_unknown_response(buffer, id_of(request))
         }
         Request::Refused(_) => write_failure(buffer, id_of(request), request[4] + 0x80, INVALID),
     };
     match stored {
         Ok(length) => Front::Stored(length),
-        Err(refusal) => Front::Refused(refusal.number),
+        Err(refusal) => Front::Refused(refusal),
     }
 }
 

@@ -2,7 +2,9 @@
 //! document 01 and the protocol page, to compare another one with.
 
 pub mod answer;
+pub mod compare;
 pub mod cursor;
+pub mod filled;
 pub mod front;
 pub mod hash;
 pub mod hex;

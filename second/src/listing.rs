@@ -1,6 +1,8 @@
 //! The listing of a request.
 
+use crate::refusal::Refusal;
 use crate::request::{read_request, Request};
+use crate::store::store;
 use crate::value::Value;
 
 /// The lines for one request, each with its newline.
@@ -23,6 +25,11 @@ pub fn list_request(message: &[u8]) -> String {
     }
 }
 
+/// Stores the listing in the first bytes of the buffer and tells its length.
+pub fn write_listing(buffer: &mut [u8], message: &[u8]) -> Result<usize, Refusal> {
+    store(buffer, list_request(message).as_bytes())
+}
+
 /// Numbers in decimal, texts and data as their length.
 fn listed(value: &Value) -> String {
     match value {
@@ -30,6 +37,5 @@ fn listed(value: &Value) -> String {
         Value::Signed(number) => number.to_string(),
         Value::Bool(truth) => u8::from(*truth).to_string(),
         Value::Part(part) => part.bytes.len().to_string(),
-        Value::Count(count) => count.to_string(),
     }
 }

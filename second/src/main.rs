@@ -6,7 +6,7 @@ use std::io::{self, BufReader, BufWriter, Write};
 use std::process::ExitCode;
 
 use second::answer::answer_all;
-use second::make::{Cases, OPS};
+use second::make::{known_ops, Cases, OPS};
 
 fn main() -> ExitCode {
     let arguments: Vec<String> = env::args().skip(1).collect();
@@ -14,7 +14,7 @@ fn main() -> ExitCode {
     let done = match words[..] {
         ["make", seed, count, ref ops @ ..] if ops.len() <= 1 => {
             let ops = ops.first().copied().unwrap_or(OPS);
-            match (seed.parse(), count.parse(), known(ops)) {
+            match (seed.parse(), count.parse(), known_ops(ops)) {
                 (Ok(seed), Ok(count), true) => make(seed, count, ops),
                 _ => return usage(),
             }
@@ -32,11 +32,6 @@ fn main() -> ExitCode {
             ExitCode::from(1)
         }
     }
-}
-
-/// Some ops, and no other letter.
-fn known(ops: &str) -> bool {
-    !ops.is_empty() && ops.chars().all(|op| OPS.contains(op))
 }
 
 fn make(seed: u64, count: usize, ops: &str) -> io::Result<()> {

@@ -1,6 +1,7 @@
 //! The iterator over the names of a readdir reply.
 
 use crate::cursor::Cursor;
+use crate::methods::READDIR;
 use crate::reply::{read_reply, Reply};
 use crate::value::{Part, Value};
 
@@ -9,7 +10,7 @@ const FIRST_NAME: usize = 13;
 
 pub struct Names<'a> {
     cursor: Cursor<'a>,
-    left: u32,
+    left: u64,
 }
 
 impl<'a> Names<'a> {
@@ -18,10 +19,10 @@ impl<'a> Names<'a> {
     pub fn open(message: &'a [u8]) -> Names<'a> {
         let mut cursor = Cursor::new(message);
         let mut left = 0;
-        if let Reply::Success { values, .. } = read_reply(message) {
-            if let [Value::Count(count)] = values[..] {
+        if let Reply::Success { method, values, .. } = read_reply(message) {
+            if let (READDIR, [Value::Unsigned(count)]) = (method.number, &values[..]) {
                 cursor.at = FIRST_NAME;
-                left = count;
+                left = *count;
             }
         }
         Names { cursor, left }

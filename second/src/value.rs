@@ -9,13 +9,12 @@ pub struct Part<'a> {
 
 #[derive(Clone, Copy, Debug, PartialEq, Eq)]
 pub enum Value<'a> {
+    /// Also the count of the names of a readdir reply.
     Unsigned(u64),
     Signed(i32),
     Bool(bool),
     /// A text or data. Writers do not look at the place.
     Part(Part<'a>),
-    /// How many names a readdir reply has; the iterator gives the names.
-    Count(u32),
 }
 
 impl<'a> Value<'a> {

@@ -8,7 +8,7 @@ use second::answer::answer_all;
 use second::make::Cases;
 
 const SEED: u64 = 1;
-const COUNT: usize = 10_000;
+const COUNT: usize = 14_000;
 
 fn committed(name: &str) -> PathBuf {
     Path::new(env!("CARGO_MANIFEST_DIR")).join("../crates/conformance").join(name)

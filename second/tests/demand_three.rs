@@ -1,38 +1,61 @@
-//! Bytes behind the known part change nothing; every cut of it is refused.
+//! Bytes behind the known part change nothing; every cut of it is refused
+//! where the first number or run begins that is no longer whole.
 
 mod common;
 
 use common::*;
 use second::make::fixed_list;
+use second::methods::{method_of_reply, method_of_request, Field, GETCREDS};
 use second::names::Names;
+use second::refusal::{Refusal, LONGEST};
 use second::reply::{read_reply, Reply};
 use second::request::{read_request, Request};
 
 /// The messages of all reading cases of the fixed list, not too long.
 fn messages(op: u8) -> Vec<Vec<u8>> {
-    let mut messages = Vec::new();
-    for case in fixed_list().iter().filter(|case| case.op == op) {
-        let whole = u32::from_be_bytes(case.body[..4].try_into().unwrap()) as usize;
-        if whole < 1_000 {
-            let mut message = case.body[5..].to_vec();
-            message.resize(whole, case.body[4]);
-            messages.push(message);
-        }
-    }
-    messages
+    let cases = fixed_list().into_iter().filter(|case| case.op == op);
+    let messages = cases.map(|case| message_at(&case.body, 0));
+    messages.filter(|message| message.len() < 1_000).collect()
 }
 
 const TAILS: [&[u8]; 5] = [b"", b"\0", b"\xff\xff\xff\xff", b"\x80", &[7; 300]];
 
-/// The first number or run that a cut leaves unfinished begins at or before
-/// the cut, never behind it.
-fn assert_cut(number: u8, place: usize, length: usize) {
-    if length < 5 {
-        assert_eq!((number, place), (1, 0));
-    } else {
-        assert_eq!(number, 4);
-        assert!((5..=length).contains(&place));
+/// The known part with each tail, and filled up to the greatest length.
+fn longer_ones(known: &[u8]) -> Vec<Vec<u8>> {
+    let mut longer: Vec<Vec<u8>> = TAILS.iter().map(|tail| [known, tail].concat()).collect();
+    for (whole, fill) in [(LONGEST, 0), (LONGEST, 0xff), (LONGEST - 1, 0x61)] {
+        longer.push(second::filled::filled(known, whole, fill));
     }
+    longer
+}
+
+/// The refusal of the first `length` bytes of a message with these numbers
+/// and runs behind the header.
+fn cut_refusal(elements: &[(usize, usize)], length: usize) -> Refusal {
+    if length < 5 {
+        return Refusal { number: 1, place: 0 };
+    }
+    let place = elements.iter().find(|element| element.1 > length).unwrap().0;
+    Refusal { number: 4, place }
+}
+
+fn request_elements(message: &[u8]) -> Vec<(usize, usize)> {
+    let fields: &[Field] = method_of_request(message[4]).map_or(&[], |method| method.request);
+    elements(message, 5, fields)
+}
+
+fn reply_elements(message: &[u8]) -> Vec<(usize, usize)> {
+    let Some(method) = method_of_reply(message[4]) else {
+        return Vec::new();
+    };
+    if method.number == GETCREDS {
+        return elements(message, 5, method.reply);
+    }
+    let mut found = vec![(5, 9)];
+    if message[5] < 0x80 {
+        found.extend(elements(message, 9, method.reply));
+    }
+    found
 }
 
 #[test]
@@ -43,16 +66,16 @@ fn requests() {
             continue;
         };
         accepted += 1;
-        for tail in TAILS {
-            let longer = [&message[..known], tail].concat();
+        for longer in longer_ones(&message[..known]) {
             assert_eq!(read_request(&longer), read_request(&message));
         }
+        let elements = request_elements(&message);
         for length in 0..known {
-            let Request::Refused(refusal) = read_request(&message[..length]) else { panic!() };
-            assert_cut(refusal.number, refusal.place, length);
+            let wanted = Request::Refused(cut_refusal(&elements, length));
+            assert_eq!(read_request(&message[..length]), wanted);
         }
     }
-    assert!(accepted > 500);
+    assert!(accepted > 1_000);
 }
 
 #[test]
@@ -63,15 +86,16 @@ fn replies() {
             continue;
         };
         accepted += 1;
-        for tail in TAILS {
-            let longer = [&message[..known], tail].concat();
+        for longer in longer_ones(&message[..known]) {
             assert_eq!(read_reply(&longer), read_reply(&message));
             assert!(Names::open(&longer).eq(Names::open(&message)));
         }
+        let elements = reply_elements(&message);
         for length in 0..known {
-            let Reply::Refused(refusal) = read_reply(&message[..length]) else { panic!() };
-            assert_cut(refusal.number, refusal.place, length);
+            let wanted = Reply::Refused(cut_refusal(&elements, length));
+            assert_eq!(read_reply(&message[..length]), wanted);
+            assert_eq!(Names::open(&message[..length]).count(), 0);
         }
     }
-    assert!(accepted > 300);
+    assert!(accepted > 600);
 }

@@ -1,5 +1,8 @@
 //! One request and one success of every method, with all fields told apart.
 
+mod common;
+
+use common::{with_parts, REPLY_PARTS, REQUEST_PARTS};
 use second::answer::answer;
 use second::hex::from_hex;
 
@@ -44,18 +47,17 @@ const SUCCESSES: [(&str, &str); 7] = [
          0000000000000006 0000000000000007 0000000000000008 0000000000000009 0000000a \
          000000000000000b 0000000c 000000000000000d 0000000e",
         "getattr 1 97 inode=1 nlink=2 mode=3 uid=4 gid=5 rdev=6 size=7 blocks=8 atime=9 \
-         atime.nsec=10 mtime=11 mtime.nsec=12 ctime=13 ctime.nsec=14 names=0:0 end",
+         atime.nsec=10 mtime=11 mtime.nsec=12 ctime=13 ctime.nsec=14",
     ),
-    ("83 00000001 00000001 2f", "readlink 1 14 resolved=13:1:48 names=0:0 end"),
-    ("8b 00000001 0000000000000001", "open 1 17 handle=1 names=0:0 end"),
-    ("8d 00000001 0000000000000001", "create 1 17 handle=1 names=0:0 end"),
-    ("90 00000001 00000001 ff", "read 1 14 data=13:1:256 names=0:0 end"),
-    ("93 00000001 00000000", "readdir 1 13 names=0:0 end"),
+    ("83 00000001 00000001 2f", "readlink 1 14 resolved=13:1:48"),
+    ("8b 00000001 0000000000000001", "open 1 17 handle=1"),
+    ("8d 00000001 0000000000000001", "create 1 17 handle=1"),
+    ("90 00000001 00000001 ff", "read 1 14 data=13:1:256"),
+    ("93 00000001 00000000", "readdir 1 13"),
     (
         "95 00000001 0000000000000001 0000000000000002 0000000000000003 0000000000000004 \
          0000000000000005 0000000000000006 0000000000000007 0000000000000008",
-        "statfs 1 73 bsize=1 frsize=2 blocks=3 bfree=4 bavail=5 files=6 ffree=7 namemax=8 \
-         names=0:0 end",
+        "statfs 1 73 bsize=1 frsize=2 blocks=3 bfree=4 bavail=5 files=6 ffree=7 namemax=8",
     ),
 ];
 
@@ -89,17 +91,19 @@ fn answered(op: u8, text: &str) -> String {
 #[test]
 fn requests() {
     for (text, wanted) in REQUESTS {
-        assert_eq!(answered(b'q', text), format!("known 1 {wanted}"));
+        let line = format!("known 1 {wanted}");
+        assert_eq!(answered(b'q', text), with_parts(&REQUEST_PARTS, &line));
     }
 }
 
 #[test]
 fn successes() {
     for (text, wanted) in SUCCESSES {
-        assert_eq!(answered(b'p', text), format!("success 1 {wanted}"));
+        let line = with_parts(&REPLY_PARTS, &format!("success 1 {wanted}"));
+        assert_eq!(answered(b'p', text), line + " names=0:0 end");
     }
     for (kind, name) in BARE {
-        let wanted = format!("success 1 {name} 1 9 names=0:0 end");
-        assert_eq!(answered(b'p', &format!("{kind:02x} 00000001")), wanted);
+        let line = with_parts(&REPLY_PARTS, &format!("success 1 {name} 1 9"));
+        assert_eq!(answered(b'p', &format!("{kind:02x} 00000001")), line + " names=0:0 end");
     }
 }

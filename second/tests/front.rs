@@ -5,6 +5,7 @@ mod common;
 use common::*;
 use second::front::{front, Front};
 use second::hex::from_hex;
+use second::refusal::Refusal;
 
 /// The front's answer for each room up to 12: nothing below `needed`, then
 /// the bytes with the rest of the buffer as before.
@@ -13,7 +14,7 @@ fn answers(request: &[u8], needed: &[u8]) {
         let mut buffer = pattern(room);
         let answer = front(request, &mut buffer);
         if room < needed.len() {
-            assert_eq!(answer, Front::Refused(7));
+            assert_eq!(answer, Front::Refused(Refusal { number: 7, place: 0 }));
             assert_eq!(buffer, pattern(room));
         } else {
             assert_eq!(answer, Front::Stored(needed.len()));
@@ -34,7 +35,8 @@ fn unchanged(request: &[u8], wanted: Front) {
 #[test]
 fn truncated_headers_are_refused_before_the_room_counts() {
     for length in 0..5 {
-        unchanged(&from_hex("0102030402")[..length], Front::Refused(1));
+        let refused = Front::Refused(Refusal { number: 1, place: 0 });
+        unchanged(&from_hex("0102030402")[..length], refused);
     }
 }
 

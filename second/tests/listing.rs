@@ -1,7 +1,10 @@
 //! The listing of a request.
 
+mod common;
+
+use common::{assert_refused, assert_stored};
 use second::hex::from_hex;
-use second::listing::list_request;
+use second::listing::{list_request, write_listing};
 
 fn listed(text: &str) -> String {
     list_request(&from_hex(text))
@@ -31,6 +34,20 @@ fn timestamps_have_two_lines() {
     let wanted = "utimens id 1\npath 0\natime 1\natime.nsec 2\nmtime 3\nmtime.nsec 4\n\
                   handle 18446744073709551615\nknown 41 of 41\n";
     assert_eq!(listed(text), wanted);
+}
+
+#[test]
+fn rooms() {
+    for text in ["00000007 01 00000002 2f61 04", "00000023 42 00", "", "00000001 02 00000002 2f"] {
+        let message = from_hex(text);
+        let wanted = list_request(&message);
+        for room in [wanted.len(), wanted.len() + 1, 300, 70_000] {
+            assert_stored(wanted.as_bytes(), room, |buffer| write_listing(buffer, &message));
+        }
+        for room in [0, 1, wanted.len() - 1] {
+            assert_refused(7, room, |buffer| write_listing(buffer, &message));
+        }
+    }
 }
 
 #[test]

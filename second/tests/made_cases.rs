@@ -4,21 +4,23 @@
 use std::collections::{BTreeMap, BTreeSet};
 
 use second::answer::{answer, answer_all, LONGEST_BODY};
-use second::make::{fixed_list, Cases};
+use second::make::{fixed_list, Cases, OPS};
 
 fn framed(seed: u64, count: usize) -> Vec<u8> {
     Cases::new(seed).take(count).flat_map(|case| case.framed()).collect()
 }
 
+/// As many as are committed.
+const COUNT: usize = 14_000;
+
 #[test]
-fn ten_thousand_are_below_two_megabytes() {
+fn cases_and_answers_are_below_two_megabytes_together() {
     for seed in [1, 2] {
-        let cases = framed(seed, 10_000);
-        assert!(cases.len() < 2_000_000);
+        let cases = framed(seed, COUNT);
         let mut answers = Vec::new();
         answer_all(&cases[..], &mut answers).unwrap();
-        assert!(answers.len() < 2_000_000);
-        assert_eq!(answers.iter().filter(|byte| **byte == b'\n').count(), 10_000);
+        assert!(cases.len() + answers.len() < 2_000_000);
+        assert_eq!(answers.iter().filter(|byte| **byte == b'\n').count(), COUNT);
         assert!(answers.is_ascii());
     }
 }
@@ -26,27 +28,47 @@ fn ten_thousand_are_below_two_megabytes() {
 #[test]
 fn seeds_decide() {
     let fixed = fixed_list().len();
-    assert!(fixed < 9_000);
-    assert_eq!(framed(5, 9_500), framed(5, 9_500));
-    assert_ne!(framed(5, 9_500), framed(6, 9_500));
+    assert!(fixed <= COUNT - 2_000);
+    assert_eq!(framed(5, COUNT), framed(5, COUNT));
+    assert_ne!(framed(5, COUNT), framed(6, COUNT));
     assert_eq!(framed(5, fixed), framed(6, fixed));
 }
 
-/// The bodies stay in their bound, and a readdir reply that is written again
-/// has at most 2,000 names.
+#[test]
+fn fresh_cases_are_those_behind_the_fixed_list() {
+    for ops in [OPS, "dl"] {
+        let fixed = fixed_list().iter().filter(|case| ops.contains(char::from(case.op))).count();
+        let behind = Cases::of(4, ops).skip(fixed).map(|case| case.framed());
+        let fresh = Cases::fresh(4, ops).map(|case| case.framed());
+        assert!(behind.take(200).eq(fresh.take(200)));
+    }
+}
+
 #[test]
 fn bounds_of_single_cases() {
-    for case in Cases::new(3).take(15_000) {
+    for case in Cases::new(3).take(COUNT).chain(Cases::fresh(4, OPS).take(6_000)) {
         assert!(case.body.len() <= LONGEST_BODY);
         let line = answer(case.op, &case.body).unwrap();
         assert!(!line.ends_with(' ') && !line.contains("  ") && !line.contains('\n'));
-        if case.op == b'g' && case.body[0] == 1 {
-            let read = answer(b'p', &case.body[5..]).unwrap();
-            let counted = read.split(" names=").nth(1).unwrap();
-            let count: usize = counted.split(':').next().unwrap().parse().unwrap();
-            assert!(count <= 2_000);
-        }
     }
+}
+
+/// The number of names that a reply's line tells.
+fn count(line: &str) -> usize {
+    let counted = line.split(" names=").nth(1).unwrap();
+    counted.split(':').next().unwrap().parse().unwrap()
+}
+
+#[test]
+fn many_random_replies_have_many_names() {
+    let cases = Cases::fresh(6, "p").take(4_000);
+    let counts: Vec<usize> =
+        cases.map(|case| count(&answer(case.op, &case.body).unwrap())).collect();
+    let within =
+        |least, most| counts.iter().filter(|count| (least..=most).contains(*count)).count();
+    assert!(within(5, 60) > 400);
+    assert!(within(190, 210) > 10);
+    assert!(within(1_000, 16_380) > 2);
 }
 
 /// The numbers of refusal that the answers to each op show.
@@ -55,7 +77,8 @@ fn refusals() -> BTreeMap<char, BTreeSet<String>> {
     for case in fixed_list() {
         let line = answer(case.op, &case.body).unwrap();
         let numbers = found.entry(char::from(case.op)).or_default();
-        if let Some(rest) = line.strip_prefix("refused ") {
+        // A listing may tell a refusal behind its own words.
+        if let Some((_, rest)) = line.split_once("refused ") {
             numbers.insert(rest[..1].to_string());
         }
     }
@@ -70,7 +93,7 @@ fn the_fixed_list_has_every_refusal_of_every_op() {
         ('e', "7"),
         ('f', "17"),
         ('g', "1234567"),
-        ('l', "1245"),
+        ('l', "12457"),
         ('p', "123456"),
         ('q', "1245"),
         ('r', "25678"),

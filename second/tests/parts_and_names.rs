@@ -1,7 +1,5 @@
 //! Parts of messages, and the iterator over names.
 
-mod common;
-
 use second::hex::from_hex;
 use second::names::Names;
 use second::reply::reply_part;

@@ -1,5 +1,6 @@
 //! Taking a case's body apart.
 
+use crate::filled::filled;
 use crate::methods::{Field, Kind};
 use crate::value::Value;
 
@@ -7,7 +8,7 @@ use crate::value::Value;
 const LONGEST: usize = 70_000;
 
 /// The most lengths of a readdir case.
-const MOST_LENGTHS: usize = 2_000;
+const MOST_LENGTHS: usize = 16_384;
 
 type Taken<T> = Result<T, String>;
 
@@ -124,10 +125,4 @@ impl<'a> Body<'a> {
             Err(format!("{} bytes too many in the body", self.left.len()))
         }
     }
-}
-
-fn filled(prefix: &[u8], whole: usize, fill: u8) -> Vec<u8> {
-    let mut bytes = prefix.to_vec();
-    bytes.resize(whole, fill);
-    bytes
 }

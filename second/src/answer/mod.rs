@@ -9,7 +9,7 @@ use std::io::{self, Read, Write};
 
 use crate::front::{front, Front};
 use crate::hash::hash;
-use crate::listing::list_request;
+use crate::listing::write_listing;
 use body::Body;
 
 /// The longest body of a case.
@@ -22,7 +22,7 @@ pub fn answer(op: u8, body: &[u8]) -> Result<String, String> {
     let line = match op {
         b'q' => read::request_line(&body.message()?),
         b'p' => read::reply_line(&body.message()?),
-        b'l' => list_request(&body.message()?).replace('\n', "|"),
+        b'l' => listing_line(&mut body)?,
         b'f' => front_line(&mut body)?,
         b'w' => write::request(&mut body)?,
         b'u' => write::unknown_request(&mut body)?,
@@ -44,7 +44,20 @@ fn front_line(body: &mut Body) -> Result<String, String> {
     Ok(match front(&request, &mut buffer) {
         Front::HandedOn => format!("handed-on {}", hash(&buffer)),
         Front::Stored(length) => write::stored_line(&buffer, length),
-        Front::Refused(number) => format!("refused {number} {}", hash(&buffer)),
+        Front::Refused(refusal) => write::refused_line(&buffer, refusal),
+    })
+}
+
+fn listing_line(body: &mut Body) -> Result<String, String> {
+    let mut buffer = body.buffer()?;
+    let request = body.message()?;
+    Ok(match write_listing(&mut buffer, &request) {
+        Ok(length) => {
+            let (listed, rest) = buffer.split_at(length);
+            let text = String::from_utf8_lossy(listed).replace('\n', "|");
+            format!("stored {length} {} {text}", hash(rest))
+        }
+        Err(refusal) => write::refused_line(&buffer, refusal),
     })
 }
 

@@ -1,17 +1,30 @@
 //! Answer lines of the readers and of the names iterator.
 
 use crate::hash::{hash, Hash};
-use crate::methods::Field;
+use crate::methods::{Field, Kind};
 use crate::names::Names;
 use crate::refusal::Refusal;
-use crate::reply::{read_reply, Reply};
-use crate::request::{read_request, Request};
+use crate::reply::{read_reply, reply_part, Reply};
+use crate::request::{read_request, request_part, Request};
 use crate::value::{Part, Value};
 
 /// So many names of a reply stand singly in its line.
 const SINGLE_NAMES: usize = 200;
 
+const REQUEST_PARTS: [&str; 6] = ["path", "target", "linkpath", "old_path", "new_path", "data"];
+const REPLY_PARTS: [&str; 3] = ["resolved", "data", "creds"];
+
 pub fn request_line(message: &[u8]) -> String {
+    let parts = REQUEST_PARTS.map(|name| request_part(message, name));
+    request_text(message) + &parts_text(&parts)
+}
+
+pub fn reply_line(message: &[u8]) -> String {
+    let parts = REPLY_PARTS.map(|name| reply_part(message, name));
+    reply_text(message) + &parts_text(&parts) + &names_text(message)
+}
+
+fn request_text(message: &[u8]) -> String {
     match read_request(message) {
         Request::Known { id, method, values, known } => {
             let fields = fields_text(method.request, &values);
@@ -22,15 +35,11 @@ pub fn request_line(message: &[u8]) -> String {
     }
 }
 
-pub fn reply_line(message: &[u8]) -> String {
-    answer_text(message) + &names_text(message)
-}
-
 pub fn refusal_line(refusal: Refusal) -> String {
     format!("refused {} at {}", refusal.number, refusal.place)
 }
 
-fn answer_text(message: &[u8]) -> String {
+fn reply_text(message: &[u8]) -> String {
     match read_reply(message) {
         Reply::Success { id, method, result, values, known } => {
             let fields = fields_text(method.reply, &values);
@@ -49,14 +58,14 @@ fn answer_text(message: &[u8]) -> String {
 
 fn fields_text(fields: &[Field], values: &[Value]) -> String {
     let mut text = String::new();
-    for (field, value) in fields.iter().zip(values) {
+    // The names and their count stand behind.
+    let shown = |(field, _): &(&Field, &Value)| field.kind != Kind::Names;
+    for (field, value) in fields.iter().zip(values).filter(shown) {
         let shown = match value {
             Value::Unsigned(number) => number.to_string(),
             Value::Signed(number) => number.to_string(),
             Value::Bool(truth) => u8::from(*truth).to_string(),
             Value::Part(part) => part_text(part),
-            // The names themselves and their count stand behind.
-            Value::Count(_) => continue,
         };
         text += &format!(" {}={shown}", field.name);
     }
@@ -65,6 +74,13 @@ fn fields_text(fields: &[Field], values: &[Value]) -> String {
 
 fn part_text(part: &Part) -> String {
     format!("{}:{}:{}", part.start, part.bytes.len(), hash(part.bytes))
+}
+
+/// One checksum over those of the parts.
+fn parts_text(parts: &[&[u8]]) -> String {
+    let mut all = Hash::default();
+    parts.iter().for_each(|part| all.feed_number(hash(part)));
+    format!(" parts={}", all.value())
 }
 
 fn names_text(message: &[u8]) -> String {

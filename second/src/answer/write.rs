@@ -1,6 +1,7 @@
 //! Answer lines of the writers.
 
 use crate::answer::body::{Body, Given};
+use crate::answer::read::refusal_line;
 use crate::hash::hash;
 use crate::methods::{method_of_reply, method_of_request, GETCREDS, READDIR};
 use crate::refusal::Refusal;
@@ -16,10 +17,12 @@ type Line = Result<String, String>;
 pub fn written_line(buffer: &[u8], written: Result<usize, Refusal>) -> String {
     match written {
         Ok(length) => stored_line(buffer, length),
-        Err(Refusal { number, place }) => {
-            format!("refused {number} at {place} {}", hash(buffer))
-        }
+        Err(refusal) => refused_line(buffer, refusal),
     }
+}
+
+pub fn refused_line(buffer: &[u8], refusal: Refusal) -> String {
+    format!("{} {}", refusal_line(refusal), hash(buffer))
 }
 
 pub fn stored_line(buffer: &[u8], length: usize) -> String {

@@ -1,5 +1,6 @@
 //! Framed cases, as FORMAT.md lays them out.
 
+use crate::filled::filled;
 use crate::store::{push, push_signed};
 
 /// Bytes given as a prefix and a fill up to the whole length.
@@ -21,9 +22,7 @@ impl Filled {
 
     /// The bytes themselves.
     pub fn bytes(&self) -> Vec<u8> {
-        let mut bytes = self.prefix.clone();
-        bytes.resize(self.whole, self.fill);
-        bytes
+        filled(&self.prefix, self.whole, self.fill)
     }
 }
 
@@ -97,8 +96,8 @@ pub fn read(side: Side, message: &Filled) -> Case {
     Case::new(op).message(message)
 }
 
-pub fn listing(message: &Filled) -> Case {
-    Case::new(b'l').message(message)
+pub fn listing(room: usize, message: &Filled) -> Case {
+    Case::new(b'l').number(4, room as u64).message(message)
 }
 
 pub fn front(room: usize, message: &Filled) -> Case {

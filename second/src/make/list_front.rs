@@ -30,12 +30,12 @@ pub fn add(out: &mut Vec<Case>) {
     }
     for length in 0..5 {
         let cut = from_hex("8182838402");
-        for room in [0, 1, 4, 5, 9, 10] {
+        for room in 0..=10 {
             out.push(front(room, &Filled::exact(&cut[..length])));
         }
     }
     for oversize in ["91929394 02", "91929394 42", "91929394 ff", "91929394 80"] {
-        for room in [0, 4, 5, 6, 8, 9, 10, 70_000] {
+        for room in (0..=10).chain([70_000]) {
             out.push(front(room, &Filled::padded(&from_hex(oversize), 65_537, 0)));
         }
     }

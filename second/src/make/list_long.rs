@@ -35,7 +35,7 @@ fn add_request(out: &mut Vec<Case>, method: &Method, whole: usize) {
     let message = Filled::padded(&prefix, whole, 0);
     out.push(read(Side::Request, &message));
     if method.number % 4 == 1 {
-        out.push(listing(&message));
+        out.push(listing(300, &message));
         out.push(front(9, &message));
         out.push(again(Side::Request, whole, &message));
     }

@@ -22,7 +22,7 @@ fn add_request(out: &mut Vec<Case>, method: &Method, style: Style) {
     let puts = puts(method.request, style);
     let message = request_draft(method, id(style), &puts).whole();
     out.push(read(Side::Request, &message));
-    out.push(listing(&message));
+    out.push(listing(300, &message));
     if style == Style::Zeros {
         out.push(front(0, &message));
     }
@@ -56,7 +56,7 @@ fn add_bools(out: &mut Vec<Case>) {
         let puts = [path, Put::Number(byte), Put::Number(0x0102_0304_0506_0708)];
         let message = request_draft(fsync, 77, &puts).whole();
         out.push(read(Side::Request, &message));
-        out.push(listing(&message));
+        out.push(listing(300, &message));
         out.push(again(Side::Request, 30, &message));
         out.push(writer_request(fsync, 30, 77, &puts));
     }

@@ -42,7 +42,7 @@ pub fn add(out: &mut Vec<Case>) {
     for row in REQUESTS {
         let message = Filled::exact(&from_hex(row));
         out.push(read(Side::Request, &message));
-        out.push(listing(&message));
+        out.push(listing(300, &message));
         out.push(front(12, &message));
         out.push(again(Side::Request, 16, &message));
     }
@@ -54,6 +54,6 @@ pub fn add(out: &mut Vec<Case>) {
     for whole in [65_536, 65_537] {
         let message = Filled::padded(&from_hex("00000001 17"), whole, 0);
         out.push(read(Side::Request, &message));
-        out.push(listing(&message));
+        out.push(listing(300, &message));
     }
 }

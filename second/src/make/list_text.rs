@@ -18,18 +18,23 @@ pub const ENTRIES: [&[(u8, u8)]; 9] = [
     &[(0xf4, 0xf4), (0x80, 0x8f), (0x80, 0xbf), (0x80, 0xbf)],
 ];
 
-/// What stands before and behind a character in a text.
-const PLACES: [(&[u8], &[u8]); 5] = [
+/// What stands before and behind a character in a text; it begins at each
+/// place from 0 to 7.
+const PLACES: [(&[u8], &[u8]); 8] = [
     (b"", b""),
-    (b"", b"xyz"),
-    (b"abc", b""),
     (b"a", b"z"),
+    (b"\xc3\xa9", b""),
+    (b"abc", b""),
+    (b"\xf0\x9f\x98\x80", b"xyz"),
     (b"\xc3\xa9\xe2\x82\xac", b"\xf0\x9f\x98\x80"),
+    (b"abcdef", b""),
+    (b"abcdefg", b"\xc2\x80z"),
 ];
 
 /// How many ways `carry` knows to put a text into a case.
-const CARRIERS: usize = 12;
+const CARRIERS: usize = 16;
 
+/// Every character goes into every carrier, each time at another place.
 pub fn add(out: &mut Vec<Case>) {
     let mut turn = 0;
     for character in edges() {
@@ -37,8 +42,10 @@ pub fn add(out: &mut Vec<Case>) {
             let text = [before, &character, behind].concat();
             out.push(read(Side::Request, &unlink(&text)));
         }
-        let (before, behind) = PLACES[turn % PLACES.len()];
-        out.push(carry(turn % CARRIERS, &[before, &character, behind].concat()));
+        for way in 0..CARRIERS {
+            let (before, behind) = PLACES[(turn + way) % PLACES.len()];
+            out.push(carry(way, &[before, &character, behind].concat()));
+        }
         turn += 1;
     }
     for first in 0..=255 {
@@ -94,8 +101,9 @@ fn add_broken(out: &mut Vec<Case>, entry: &[(u8, u8)], turn: &mut usize) {
                     *turn += 1;
                 }
             }
-            out.push(split_names(there, missing));
-            out.push(split_writer(there, missing));
+            // The character is split over two names.
+            out.push(read(Side::Reply, &names(&[there, missing])));
+            out.push(named(&[there, missing]));
         }
     }
 }
@@ -114,17 +122,19 @@ fn unlink(text: &[u8]) -> Filled {
 
 /// A case with the text in one of its fields.
 fn carry(way: usize, text: &[u8]) -> Case {
-    let joined = [b"n", text, b"m"].concat();
-    let lengths = [1, text.len() as u32, 0, 1];
     match way {
-        0 => writer_request(method("unlink"), 50, 0x58, &[run(text)]),
+        0 => writer_request(method("symlink"), 50, 0x58, &[run(text), run(b"l")]),
         1 => writer_request(method("symlink"), 50, 0x58, &[run(b"t"), run(text)]),
         2 => writer_success(method("readlink"), 50, 0x58, 0, &[run(text)]),
         3 => write_getcreds(50, 0x58, &Filled::exact(text)),
-        4 => write_readdir(60, 0x58, 0, &Filled::exact(&joined), &lengths),
-        5 => read(Side::Reply, &reply_draft(method("readlink"), 0x57, 3, &[run(text)]).whole()),
-        6 => read(Side::Reply, &reply_draft(method("getcreds"), 0x57, 0, &[run(text)]).whole()),
-        7 => read(Side::Reply, &names(&[b"n", text, b""])),
+        4 => named(&[text, b"n", b"m"]),
+        5 => named(&[b"n", text, b"", b"m"]),
+        6 => named(&[b"n", b"m", text]),
+        7 => read(Side::Reply, &names(&[text, b"n", b"m"])),
+        8 => read(Side::Reply, &names(&[b"n", text, b""])),
+        9 => read(Side::Reply, &names(&[b"n", b"m", text])),
+        10 => read(Side::Reply, &reply_draft(method("readlink"), 0x57, 3, &[run(text)]).whole()),
+        11 => read(Side::Reply, &reply_draft(method("getcreds"), 0x57, 0, &[run(text)]).whole()),
         _ => carry_request(way, text),
     }
 }
@@ -135,24 +145,20 @@ fn carry_request(way: usize, text: &[u8]) -> Case {
     let late = Put::Number(0x80_80_80_80_80_80_80_80);
     let request = |name, puts: &[Put]| request_draft(method(name), 0x56, puts).whole();
     match way {
-        8 => read(Side::Request, &request("access", &[run(text), late])),
-        9 => read(Side::Request, &request("rename", &[run(b"/o"), run(text), late])),
-        10 => listing(&request("symlink", &[run(text), run(b"l")])),
+        12 => read(Side::Request, &request("access", &[run(text), late])),
+        13 => read(Side::Request, &request("rename", &[run(b"/o"), run(text), late])),
+        14 => listing(60, &request("symlink", &[run(text), run(b"l")])),
         _ => front(13, &request("link", &[run(b"o"), run(text)])),
     }
+}
+
+/// The writer of these names.
+fn named(names: &[&[u8]]) -> Case {
+    let lengths: Vec<u32> = names.iter().map(|name| name.len() as u32).collect();
+    write_readdir(60, 0x58, 0, &Filled::exact(&names.concat()), &lengths)
 }
 
 fn names(names: &[&[u8]]) -> Filled {
     let names = names.iter().map(|name| name.to_vec()).collect();
     reply_draft(method("readdir"), 0x59, 0, &[Put::Names(names)]).whole()
-}
-
-/// A character split over two names.
-fn split_names(there: &[u8], missing: &[u8]) -> Case {
-    read(Side::Reply, &names(&[there, missing]))
-}
-
-fn split_writer(there: &[u8], missing: &[u8]) -> Case {
-    let lengths = [there.len() as u32, missing.len() as u32];
-    write_readdir(40, 0x59, 0, &Filled::exact(&[there, missing].concat()), &lengths)
 }

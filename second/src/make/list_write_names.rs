@@ -4,6 +4,7 @@
 use crate::make::case::{again, write_readdir, Case, Filled, Side};
 use crate::make::put::{reply_draft, Put};
 use crate::methods::{method_of_request, READDIR};
+use crate::store::push;
 
 pub fn add(out: &mut Vec<Case>) {
     add_lists(out);
@@ -11,6 +12,7 @@ pub fn add(out: &mut Vec<Case>) {
     add_orders(out);
     add_rooms(out);
     add_long(out);
+    add_most(out);
     add_again(out);
 }
 
@@ -103,10 +105,26 @@ fn add_long(out: &mut Vec<Case>) {
             out.push(write_readdir(room, 2, 0, &run, &lengths));
         }
     }
-    // The most lengths that a case may have.
-    out.push(names(8_013, 0, b"", &[0; 2_000]));
-    out.push(names(8_012, 0, b"", &[0; 2_000]));
     out.push(names(9_000, 0, b"", &[0xffff_ffff; 40]));
+}
+
+/// As many names as a message can have: 16,380 empty ones leave three bytes
+/// of the greatest length.
+fn add_most(out: &mut Vec<Case>) {
+    let mut lengths = vec![0; 16_380];
+    out.push(names(65_533, 0, b"", &lengths));
+    out.push(names(65_532, 0, b"", &lengths));
+    lengths[0] = 1;
+    for (run, room) in [("a", 65_534), ("ab", 65_540), ("abc", 65_536), ("abcd", 65_537)] {
+        lengths[16_379] = run.len() as u32 - 1;
+        out.push(names(room, 0, run.as_bytes(), &lengths));
+    }
+    out.push(names(70_000, 0, b"", &[0; 16_381]));
+    let mut message = reply_draft(method_of_request(READDIR).unwrap(), 3, 5, &[]).bytes;
+    push(&mut message, 4, 16_380);
+    for room in [65_533, 65_532] {
+        out.push(again(Side::Reply, room, &Filled::padded(&message, 65_533, 0)));
+    }
 }
 
 fn add_again(out: &mut Vec<Case>) {

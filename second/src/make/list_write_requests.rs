@@ -32,7 +32,7 @@ pub fn rooms(exact: usize) -> [usize; 7] {
 }
 
 /// The puts with another text or data in one place.
-pub fn with_run(puts: &[Put], index: usize, run: Filled) -> Vec<Put> {
+fn with_run(puts: &[Put], index: usize, run: Filled) -> Vec<Put> {
     let mut changed = puts.to_vec();
     changed[index] = Put::Run(run);
     changed

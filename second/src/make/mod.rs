@@ -4,6 +4,7 @@ pub mod case;
 mod list_cuts;
 mod list_front;
 mod list_lengths;
+mod list_listing;
 mod list_long;
 mod list_methods;
 mod list_results;
@@ -34,6 +35,7 @@ pub fn fixed_list() -> Vec<Case> {
     list_methods::add(&mut out);
     list_cuts::add(&mut out);
     list_lengths::add(&mut out);
+    list_listing::add(&mut out);
     list_text::add(&mut out);
     list_results::add(&mut out);
     list_long::add(&mut out);
@@ -49,6 +51,11 @@ pub fn fixed_list() -> Vec<Case> {
 /// Every op that cases have.
 pub const OPS: &str = "qplfwurdxceg";
 
+/// Some ops, and no other letter.
+pub fn known_ops(ops: &str) -> bool {
+    !ops.is_empty() && ops.chars().all(|op| OPS.contains(op))
+}
+
 /// The cases of one run, without end, of some ops.
 pub struct Cases {
     fixed: std::vec::IntoIter<Case>,
@@ -61,10 +68,19 @@ impl Cases {
         Cases::of(seed, OPS)
     }
 
-    /// At least one of `ops` is one of `OPS`.
+    /// The fixed list, then cases that follow from the seed.
     pub fn of(seed: u64, ops: &str) -> Cases {
-        assert!(ops.chars().any(|op| OPS.contains(op)));
-        Cases { fixed: fixed_list().into_iter(), prng: Prng::new(seed), ops: ops.to_string() }
+        Cases::behind(fixed_list(), seed, ops)
+    }
+
+    /// The cases that follow from the seed, without the fixed list.
+    pub fn fresh(seed: u64, ops: &str) -> Cases {
+        Cases::behind(Vec::new(), seed, ops)
+    }
+
+    fn behind(fixed: Vec<Case>, seed: u64, ops: &str) -> Cases {
+        assert!(known_ops(ops));
+        Cases { fixed: fixed.into_iter(), prng: Prng::new(seed), ops: ops.to_string() }
     }
 }
 

@@ -4,7 +4,7 @@ use crate::make::case::{Filled, Side};
 use crate::make::prng::Prng;
 use crate::make::put::{good_result, reply_draft, request_draft, Draft};
 use crate::make::random_values::{id, number, puts, result};
-use crate::methods::{Method, METHODS, READ};
+use crate::methods::{method_of_request, Method, METHODS, READ, READDIR};
 use crate::store::{header, push};
 
 /// So many of a hundred texts are bad.
@@ -15,7 +15,10 @@ pub fn message(prng: &mut Prng, side: Side) -> Filled {
         return long(prng, side);
     }
     let mut draft = draft(prng, side);
-    for _ in 0..prng.pick(&[0, 0, 0, 1, 1, 1, 2, 3]) {
+    // Many names are mostly left whole, or hardly one such list is accepted.
+    let spared = draft.lengths.len() > 5 && prng.chance(70);
+    let changes = if spared { 0 } else { prng.pick(&[0, 0, 0, 1, 1, 1, 2, 3]) };
+    for _ in 0..changes {
         mutate(prng, &mut draft);
     }
     let bytes = &draft.bytes;
@@ -45,8 +48,11 @@ fn draft(prng: &mut Prng, side: Side) -> Draft {
     reply_draft(method, id, wanted, &puts)
 }
 
-/// Most often a method whose replies have fields.
+/// Most often a method whose replies have fields, readdir before all.
 pub fn reply_method(prng: &mut Prng) -> &'static Method {
+    if prng.chance(30) {
+        return method_of_request(READDIR).unwrap();
+    }
     let with_fields: Vec<&Method> = METHODS.iter().filter(|row| !row.reply.is_empty()).collect();
     if prng.chance(70) {
         prng.pick(&with_fields)

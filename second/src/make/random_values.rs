@@ -5,6 +5,7 @@ use crate::make::list_text::ENTRIES;
 use crate::make::prng::Prng;
 use crate::make::put::Put;
 use crate::methods::{Field, Kind};
+use crate::refusal::LONGEST;
 
 pub fn number(prng: &mut Prng) -> u64 {
     let bit = 1u64 << prng.below(64);
@@ -84,10 +85,34 @@ pub fn text(prng: &mut Prng, bad: usize) -> Vec<u8> {
     text
 }
 
+/// Names of which one is bad in so many of a hundred lists. All fit in a
+/// message.
 pub fn names(prng: &mut Prng, bad: usize) -> Vec<Vec<u8>> {
-    let few = prng.pick(&[0, 1, 2, 3, 4, 7]);
-    let count = if prng.chance(1) { prng.between(190, 210) } else { few };
-    (0..count).map(|_| text(prng, bad)).collect()
+    let mut names: Vec<Vec<u8>> = match prng.below(100) {
+        0 => return many_names(prng),
+        1..=5 => (0..prng.between(190, 210)).map(|_| good_text(prng)).collect(),
+        6..=55 => (0..prng.between(5, 60)).map(|_| good_text(prng)).collect(),
+        _ => (0..prng.below(5)).map(|_| good_text(prng)).collect(),
+    };
+    if !names.is_empty() && prng.chance(bad) {
+        let at = prng.below(names.len());
+        spoil(prng, &mut names[at]);
+    }
+    names
+}
+
+/// Thousands of names, most of them empty or one byte long, as many as a
+/// message can have or fewer.
+fn many_names(prng: &mut Prng) -> Vec<Vec<u8>> {
+    let count = prng.pick(&[1_000, 1_500, 2_500, 4_000, 7_000, 16_380]);
+    let mut left = LONGEST - 13 - 4 * count;
+    let share = prng.pick(&[0, 1, 10, 60]);
+    let name = |_| {
+        let length = if prng.chance(share) { prng.between(1, 3).min(left) } else { 0 };
+        left -= length;
+        vec![prng.between(0x20, 0x7e) as u8; length]
+    };
+    (0..count).map(name).collect()
 }
 
 fn data(prng: &mut Prng) -> Vec<u8> {

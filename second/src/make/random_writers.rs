@@ -75,7 +75,7 @@ pub fn readdir(prng: &mut Prng) -> Case {
     if prng.chance(2) && !lengths.is_empty() {
         // The last name is stretched to about the greatest length.
         let needed = 13 + 4 * lengths.len();
-        let more = prng.between(65_530, 65_540) - needed - run.len();
+        let more = prng.between(65_530, 65_540).saturating_sub(needed + run.len());
         filled = Filled::padded(&run, run.len() + more, prng.pick(&[0, b'n', 0x80]));
         let last = lengths.len() - 1;
         lengths[last] = lengths[last].wrapping_add(more as u32);

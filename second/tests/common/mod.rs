@@ -1,8 +1,10 @@
 //! What the tests share. Each test file uses a part of it.
 #![allow(dead_code)]
 
+use second::filled::filled;
+use second::hash::hash;
 use second::hex::from_hex;
-use second::methods::{Method, METHODS};
+use second::methods::{Field, Kind, Method, METHODS};
 use second::refusal::Refusal;
 use second::reply::{read_reply, Reply};
 use second::request::{read_request, Request};
@@ -42,6 +44,54 @@ pub fn reply_known(message: &[u8]) -> Option<usize> {
         | Reply::UnknownResponse { known, .. } => Some(known),
         Reply::Refused(_) => None,
     }
+}
+
+/// The message of a case's body, which ends with it, from `at` on.
+pub fn message_at(body: &[u8], at: usize) -> Vec<u8> {
+    let whole = u32::from_be_bytes(body[at..at + 4].try_into().unwrap()) as usize;
+    filled(&body[at + 5..], whole, body[at + 4])
+}
+
+/// The line with its parts, made from the fields that it shows.
+pub fn with_parts(names: &[&str], line: &str) -> String {
+    let mut sums = Vec::new();
+    for name in names {
+        let shown = line.split(' ').find_map(|word| word.strip_prefix(&format!("{name}=")));
+        let sum = shown.map_or("0", |part| part.rsplit(':').next().unwrap());
+        sums.extend_from_slice(&sum.parse::<u64>().unwrap().to_be_bytes());
+    }
+    format!("{line} parts={}", hash(&sums))
+}
+
+pub const REQUEST_PARTS: [&str; 6] = ["path", "target", "linkpath", "old_path", "new_path", "data"];
+pub const REPLY_PARTS: [&str; 3] = ["resolved", "data", "creds"];
+
+/// Begin and end of each number and run of the fields, of which the first
+/// begins at `at`.
+pub fn elements(message: &[u8], mut at: usize, fields: &[Field]) -> Vec<(usize, usize)> {
+    let mut found = Vec::new();
+    for field in fields {
+        let mut runs = 1;
+        if let Some(width) = field.kind.width() {
+            found.push((at, at + width));
+            at += width;
+            runs = 0;
+        } else if field.kind == Kind::Names {
+            runs = length_at(message, at);
+            found.push((at, at + 4));
+            at += 4;
+        }
+        for _ in 0..runs {
+            let end = at + 4 + length_at(message, at);
+            found.extend([(at, at + 4), (at + 4, end)]);
+            at = end;
+        }
+    }
+    found
+}
+
+fn length_at(message: &[u8], at: usize) -> usize {
+    u32::from_be_bytes(message[at..at + 4].try_into().unwrap()) as usize
 }
 
 /// A lent buffer whose bytes all differ from their neighbours.
