@@ -17,7 +17,7 @@ abbrev pub namePieces : List (List ℕ) → List (List ℕ)
 namePieces [] = []
 namePieces (s ∷ ss) = bytesOf 4 (length s) ∷ s ∷ namePieces ss
 
--- what is left of the writer once the sign and the lengths are right
+-- what is left of layout's `writeNames` once the sign and the lengths are right, as the law `lengths-right` shows
 abbrev pub storeNames : ℕ → ℤ → List (List ℕ) → List ℕ → Written
 storeNames i r ss out =
     check malformedText (allWellFormed ss) out

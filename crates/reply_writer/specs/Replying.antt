@@ -23,7 +23,8 @@ abbrev pub replying : Method → ℕ → List (Value (List ℕ)) → List ℕ �
 replying m i vs out = write reply success i (replyNumber m) vs true out
 
 -- where a success with the result z is stored from: the start of a buffer of n bytes, or the first refusal.
--- `textRight`: its text is well-formed; `counted`: its result is the length of its data. Both hold where it has none
+-- `textRight`: its text is well-formed; `counted`: its result is the length of its data. Both hold where it has none.
+-- These are the checks of layout's `write` for a success, as the laws `numbers-reply` and `run-reply` show
 unfoldable pub allowed : ℤ → Bool → Bool → ℕ → ℕ → Cursor
 allowed z textRight counted size n =
     cond (not (ltZ z (pos 0)))

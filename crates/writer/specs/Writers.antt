@@ -12,7 +12,7 @@ use Rattle.writer.specs.declared.Written.{Written}
 use Rattle.writer.specs.declared.Written.the-variants.{Stored, Refused}
 
 -- where a message of `size` bytes is stored from: the start of a buffer of n bytes, or the refusal of what is checked before.
--- `textRight`: its texts are well-formed
+-- `textRight`: its texts are well-formed. These are the last checks of layout's `write`, as the law `wrote` shows
 unfoldable pub admitted : Bool → ℕ → ℕ → Cursor
 admitted textRight size n =
     cond textRight (cond (leb size longest) (cond (leb size n) (place 0) (refusal bufferTooSmall)) (refusal oversize)) (refusal malformedText)
