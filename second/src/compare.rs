@@ -29,6 +29,8 @@ pub struct Plan {
     pub seed: u64,
     pub count: usize,
     pub ops: String,
+    /// Whether the fixed list comes first.
+    pub fixed: bool,
     pub program: String,
     pub arguments: Vec<String>,
     /// How long the program may be silent.
@@ -71,7 +73,8 @@ pub fn run(plan: &Plan) -> Outcome<()> {
 }
 
 fn cases(plan: &Plan) -> Take<Cases> {
-    Cases::fresh(plan.seed, &plan.ops).take(plan.count)
+    let cases = if plan.fixed { Cases::of } else { Cases::fresh };
+    cases(plan.seed, &plan.ops).take(plan.count)
 }
 
 /// A program that reads no further shows in its answers.

@@ -1,4 +1,4 @@
-//! The iterator over the names of a readdir reply.
+//! The iterator over the names of a readdir reply, and a copy of them all.
 
 use crate::cursor::Cursor;
 use crate::methods::READDIR;
@@ -40,4 +40,26 @@ impl<'a> Iterator for Names<'a> {
         self.left -= 1;
         self.cursor.text().ok()
     }
+}
+
+/// How many names were copied, and how many bytes they are together.
+#[derive(Debug, PartialEq, Eq)]
+pub struct Collected {
+    pub count: usize,
+    pub length: usize,
+}
+
+/// Copies the names one behind the other to the start of `run`, and their
+/// lengths to the start of `lengths`. Without room for all nothing changes.
+pub fn collect_names(message: &[u8], run: &mut [u8], lengths: &mut [u32]) -> Option<Collected> {
+    let names: Vec<&[u8]> = Names::open(message).map(|name| name.bytes).collect();
+    let joined = names.concat();
+    if joined.len() > run.len() || names.len() > lengths.len() {
+        return None;
+    }
+    run[..joined.len()].copy_from_slice(&joined);
+    for (length, name) in lengths.iter_mut().zip(&names) {
+        *length = name.len() as u32;
+    }
+    Some(Collected { count: names.len(), length: joined.len() })
 }

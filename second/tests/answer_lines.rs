@@ -6,7 +6,7 @@ use common::{with_parts, REPLY_PARTS, REQUEST_PARTS};
 use second::answer::{answer, answer_all};
 use second::hash::hash;
 use second::hex::from_hex;
-use second::make::fixed_list;
+use second::make::{fixed_list, OPS};
 
 /// The parts of a request and of a reply that shows none.
 const NONE: &str = " parts=1390663664";
@@ -159,7 +159,7 @@ fn most_lengths() {
 /// The parts, shown by name, are the fields that the line shows.
 #[test]
 fn parts_are_the_fields() {
-    for case in fixed_list().iter().filter(|case| b"qp".contains(&case.op)) {
+    for case in fixed_list(OPS).iter().filter(|case| b"qp".contains(&case.op)) {
         let line = answer(case.op, &case.body).unwrap();
         let names = if case.op == b'q' { &REQUEST_PARTS[..] } else { &REPLY_PARTS };
         let fields = line.split(" parts=").next().unwrap();

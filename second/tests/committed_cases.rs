@@ -1,25 +1,47 @@
-//! The cases and answers that the library's gate runs are those that this
-//! program makes.
+//! The cases and answers of op `s` that the small program is tested with are
+//! those that this program makes: `second make 1 700 s`, and `second answer`.
 
 use std::fs;
 use std::path::{Path, PathBuf};
 
 use second::answer::answer_all;
+use second::make::case::Case;
 use second::make::Cases;
 
 const SEED: u64 = 1;
-const COUNT: usize = 14_000;
+const COUNT: usize = 700;
+
+/// The small program takes no more than this.
+const MOST_BYTES: usize = 120_000;
+const LONGEST_MESSAGE: usize = 300;
+
+/// The message stands behind the side and the room.
+const MESSAGE: usize = 5;
 
 fn committed(name: &str) -> PathBuf {
-    Path::new(env!("CARGO_MANIFEST_DIR")).join("../crates/conformance").join(name)
+    Path::new(env!("CARGO_MANIFEST_DIR")).join("../crates/shown").join(name)
+}
+
+fn made() -> Vec<Case> {
+    Cases::of(SEED, "s").take(COUNT).collect()
+}
+
+fn framed(cases: &[Case]) -> Vec<u8> {
+    cases.iter().flat_map(Case::framed).collect()
 }
 
 #[test]
 fn committed_cases_and_answers_are_made_here() {
-    let made = Cases::new(SEED).take(COUNT);
-    let cases: Vec<u8> = made.flat_map(|case| case.framed()).collect();
+    let cases = framed(&made());
     assert!(fs::read(committed("stdin")).unwrap() == cases, "the cases are to be made anew");
     let mut answers = Vec::new();
     answer_all(&cases[..], &mut answers).unwrap();
     assert!(fs::read(committed("stdout")).unwrap() == answers, "the answers are to be made anew");
+}
+
+#[test]
+fn committed_cases_are_small() {
+    let cases = made();
+    assert!(framed(&cases).len() < MOST_BYTES);
+    assert!(cases.iter().all(|case| case.body.len() <= MESSAGE + LONGEST_MESSAGE));
 }

@@ -5,6 +5,7 @@ use std::time::{Duration, Instant};
 
 use second::answer::answer;
 use second::compare::{run, Plan, FAULT};
+use second::hex::to_hex;
 use second::make::{Cases, OPS};
 
 const SECOND: &str = env!("CARGO_BIN_EXE_second");
@@ -39,9 +40,14 @@ fn line(number: usize) -> String {
 
 #[test]
 fn the_second_program_agrees_with_itself() {
-    for arguments in
-        [&["1", "3000", SECOND, "answer"][..], &["--ops=dg", "2", "1", SECOND, "answer"]]
-    {
+    let wanted: [&[&str]; 5] = [
+        &["1", "3000", SECOND, "answer"],
+        &["--ops=dg", "2", "1", SECOND, "answer"],
+        &["--ops=s", "3", "100", SECOND, "answer"],
+        &["--fixed", "4", "3000", SECOND, "answer"],
+        &["--fixed", "--ops=qs", "5", "9000", SECOND, "answer"],
+    ];
+    for arguments in wanted {
         let (status, printed) = compared(arguments);
         assert_eq!(status, 0, "{printed}");
         assert!(printed.contains(" cases, no difference, "), "{printed}");
@@ -57,6 +63,24 @@ fn wrong_lines_are_differences() {
     let next = format!("program {}", line(5));
     assert_found(r#""$0" answer | sed 5d"#, 1, &[place, &next, &ours]);
     assert_found(r#""$0" answer | sed '5s/ /  /'"#, 1, &[place, &ours]);
+}
+
+/// The cases of `make`, of which the program answers one wrongly.
+#[test]
+fn the_fixed_list_comes_first_where_it_is_asked_for() {
+    let number = 7;
+    for ops in [OPS, "s"] {
+        let case = Cases::of(SEED, ops).nth(number).unwrap();
+        let chosen = format!("--ops={ops}");
+        let wrong = format!(r#""$0" answer | sed '{}s/^/x/'"#, number + 1);
+        let (seed, count) = (SEED.to_string(), COUNT.to_string());
+        let arguments = ["--fixed", &chosen, &seed, &count, "sh", "-c", &wrong, SECOND];
+        let (status, printed) = compared(&arguments);
+        assert_eq!(status, 1);
+        let told = format!("difference in case {number} (the first is 0)");
+        assert!(printed.contains(&told), "{printed}");
+        assert!(printed.contains(&format!("\ncase    {}\n", to_hex(&case.framed()))), "{printed}");
+    }
 }
 
 #[test]
@@ -106,6 +130,7 @@ fn a_silent_program_is_given_up() {
         seed: 1,
         count: 3,
         ops: OPS.to_string(),
+        fixed: false,
         program: "sleep".to_string(),
         arguments: vec!["30".to_string()],
         limit: Duration::from_millis(200),
@@ -119,7 +144,7 @@ fn a_silent_program_is_given_up() {
 
 #[test]
 fn wrong_arguments() {
-    let wrong: [&[&str]; 8] = [
+    let wrong: [&[&str]; 12] = [
         &[],
         &["1", "5"],
         &["1", "0", SECOND, "answer"],
@@ -128,6 +153,10 @@ fn wrong_arguments() {
         &["--ops=", "1", "5", SECOND, "answer"],
         &["--ops=qz", "1", "5", SECOND, "answer"],
         &["--ops=q", "1", "5"],
+        &["--fixed"],
+        &["--fixed", "1", "5"],
+        &["--fixed", "--fixed", "1", "5", SECOND, "answer"],
+        &["--ops=q", "--fixed", "1", "5", SECOND, "answer"],
     ];
     for arguments in wrong {
         let (status, printed) = compared(arguments);

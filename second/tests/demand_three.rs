@@ -12,9 +12,8 @@ use second::reply::{read_reply, Reply};
 use second::request::{read_request, Request};
 
 /// The messages of all reading cases of the fixed list, not too long.
-fn messages(op: u8) -> Vec<Vec<u8>> {
-    let cases = fixed_list().into_iter().filter(|case| case.op == op);
-    let messages = cases.map(|case| message_at(&case.body, 0));
+fn messages(op: &str) -> Vec<Vec<u8>> {
+    let messages = fixed_list(op).into_iter().map(|case| message_at(&case.body, 0));
     messages.filter(|message| message.len() < 1_000).collect()
 }
 
@@ -61,7 +60,7 @@ fn reply_elements(message: &[u8]) -> Vec<(usize, usize)> {
 #[test]
 fn requests() {
     let mut accepted = 0;
-    for message in messages(b'q') {
+    for message in messages("q") {
         let Some(known) = request_known(&message) else {
             continue;
         };
@@ -81,7 +80,7 @@ fn requests() {
 #[test]
 fn replies() {
     let mut accepted = 0;
-    for message in messages(b'p') {
+    for message in messages("p") {
         let Some(known) = reply_known(&message) else {
             continue;
         };

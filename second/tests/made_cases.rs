@@ -4,22 +4,21 @@
 use std::collections::{BTreeMap, BTreeSet};
 
 use second::answer::{answer, answer_all, LONGEST_BODY};
-use second::make::{fixed_list, Cases, OPS};
+use second::make::{fixed_list, Cases, OPS, SHOWN_OP};
 
 fn framed(seed: u64, count: usize) -> Vec<u8> {
     Cases::new(seed).take(count).flat_map(|case| case.framed()).collect()
 }
 
-/// As many as are committed.
+/// The fixed list and many cases behind it.
 const COUNT: usize = 14_000;
 
 #[test]
-fn cases_and_answers_are_below_two_megabytes_together() {
+fn every_case_has_one_line() {
     for seed in [1, 2] {
         let cases = framed(seed, COUNT);
         let mut answers = Vec::new();
         answer_all(&cases[..], &mut answers).unwrap();
-        assert!(cases.len() + answers.len() < 2_000_000);
         assert_eq!(answers.iter().filter(|byte| **byte == b'\n').count(), COUNT);
         assert!(answers.is_ascii());
     }
@@ -27,7 +26,7 @@ fn cases_and_answers_are_below_two_megabytes_together() {
 
 #[test]
 fn seeds_decide() {
-    let fixed = fixed_list().len();
+    let fixed = fixed_list(OPS).len();
     assert!(fixed <= COUNT - 2_000);
     assert_eq!(framed(5, COUNT), framed(5, COUNT));
     assert_ne!(framed(5, COUNT), framed(6, COUNT));
@@ -36,12 +35,22 @@ fn seeds_decide() {
 
 #[test]
 fn fresh_cases_are_those_behind_the_fixed_list() {
-    for ops in [OPS, "dl"] {
-        let fixed = fixed_list().iter().filter(|case| ops.contains(char::from(case.op))).count();
-        let behind = Cases::of(4, ops).skip(fixed).map(|case| case.framed());
+    for ops in [OPS, "dl", "s", "qs"] {
+        let behind = Cases::of(4, ops).skip(fixed_list(ops).len()).map(|case| case.framed());
         let fresh = Cases::fresh(4, ops).map(|case| case.framed());
         assert!(behind.take(200).eq(fresh.take(200)));
     }
+}
+
+#[test]
+fn op_s_is_there_where_it_is_named() {
+    let ops = |ops: &str| -> BTreeSet<char> {
+        let cases = fixed_list(ops).into_iter().chain(Cases::fresh(8, ops).take(200));
+        cases.map(|case| char::from(case.op)).collect()
+    };
+    assert!(!ops(OPS).contains(&SHOWN_OP));
+    assert!(ops("s").into_iter().eq([SHOWN_OP]));
+    assert!(ops("qs").into_iter().eq(['q', SHOWN_OP]));
 }
 
 #[test]
@@ -74,7 +83,7 @@ fn many_random_replies_have_many_names() {
 /// The numbers of refusal that the answers to each op show.
 fn refusals() -> BTreeMap<char, BTreeSet<String>> {
     let mut found: BTreeMap<char, BTreeSet<String>> = BTreeMap::new();
-    for case in fixed_list() {
+    for case in fixed_list(OPS) {
         let line = answer(case.op, &case.body).unwrap();
         let numbers = found.entry(char::from(case.op)).or_default();
         // A listing may tell a refusal behind its own words.
@@ -111,7 +120,7 @@ fn the_fixed_list_has_every_refusal_of_every_op() {
 #[test]
 fn the_fixed_list_accepts_every_method() {
     let mut methods = BTreeSet::new();
-    for case in fixed_list() {
+    for case in fixed_list(OPS) {
         let line = answer(case.op, &case.body).unwrap();
         let words: Vec<&str> = line.split(' ').collect();
         if words[0] == "known" || words[0] == "success" {

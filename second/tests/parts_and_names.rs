@@ -1,7 +1,7 @@
-//! Parts of messages, and the iterator over names.
+//! Parts of messages, the iterator over names, and their copy.
 
 use second::hex::from_hex;
-use second::names::Names;
+use second::names::{collect_names, Collected, Names};
 use second::reply::reply_part;
 use second::request::request_part;
 
@@ -75,4 +75,28 @@ fn as_many_empty_names_as_fit() {
     assert!(Names::open(&message).all(|name| name.bytes.is_empty()));
     message[12] += 1;
     assert_eq!(Names::open(&message).count(), 0);
+}
+
+#[test]
+fn collected_names_lie_at_the_start() {
+    let message = from_hex("00000001 93 00000000 00000003 00000002 6162 00000000 00000001 63");
+    let (mut run, mut lengths) = (*b"-----", [9; 4]);
+    let wanted = Some(Collected { count: 3, length: 3 });
+    assert_eq!(collect_names(&message, &mut run, &mut lengths), wanted);
+    assert_eq!((&run, lengths), (b"abc--", [2, 0, 1, 9]));
+    // Exactly enough room.
+    let (mut run, mut lengths) = (*b"---", [9; 3]);
+    assert_eq!(collect_names(&message, &mut run, &mut lengths), wanted);
+    assert_eq!((&run, lengths), (b"abc", [2, 0, 1]));
+}
+
+#[test]
+fn names_without_room_change_nothing() {
+    let message = from_hex("00000001 93 00000000 00000003 00000002 6162 00000000 00000001 63");
+    let (mut run, mut lengths) = (*b"--", [9; 3]);
+    assert_eq!(collect_names(&message, &mut run, &mut lengths), None);
+    assert_eq!((&run, lengths), (b"--", [9; 3]));
+    let (mut run, mut lengths) = (*b"---", [9; 2]);
+    assert_eq!(collect_names(&message, &mut run, &mut lengths), None);
+    assert_eq!((&run, lengths), (b"---", [9; 2]));
 }

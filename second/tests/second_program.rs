@@ -7,10 +7,10 @@ use second::make::Cases;
 
 const SECOND: &str = env!("CARGO_BIN_EXE_second");
 
-#[test]
-fn made_cases_are_answered_through_a_pipe() {
+/// Cases are made by one process and answered by another.
+fn assert_piped(ops: &str, count: usize) {
     let mut make = Command::new(SECOND)
-        .args(["make", "9", "300", "qdl"])
+        .args(["make", "9", &count.to_string(), ops])
         .stdout(Stdio::piped())
         .spawn()
         .unwrap();
@@ -18,10 +18,16 @@ fn made_cases_are_answered_through_a_pipe() {
     let answered = Command::new(SECOND).arg("answer").stdin(cases).output().unwrap();
     assert!(make.wait().unwrap().success() && answered.status.success());
     let mut wanted = String::new();
-    for case in Cases::of(9, "qdl").take(300) {
+    for case in Cases::of(9, ops).take(count) {
         wanted += &(answer(case.op, &case.body).unwrap() + "\n");
     }
     assert!(answered.stdout == wanted.as_bytes());
+}
+
+#[test]
+fn made_cases_are_answered_through_a_pipe() {
+    assert_piped("qdl", 300);
+    assert_piped("s", 900);
 }
 
 #[test]

@@ -161,6 +161,10 @@ pub request-unknown : (x : ℕ) → NoneOf (reverse (map requestNumber methods))
 unfolding ofRequest
 request-unknown x n = none-found (reverse (map requestNumber methods)) requestNumber methods x n refl
 
+pub reply-unknown : (x : ℕ) → NoneOf (reverse (map replyNumber methods)) x → ofReply x ≡ unknown
+unfolding ofReply
+reply-unknown x n = none-found (reverse (map replyNumber methods)) replyNumber methods x n refl
+
 -- ---- the known request numbers are 1 to 23
 
 abbrev pub isFound : Found → Bool

@@ -1,5 +1,6 @@
 //! Taking a case's body apart.
 
+use crate::answer::LONGEST_SHOWN;
 use crate::filled::filled;
 use crate::methods::{Field, Kind};
 use crate::value::Value;
@@ -74,7 +75,16 @@ impl<'a> Body<'a> {
 
     /// The lent buffer with its pattern.
     pub fn buffer(&mut self) -> Taken<Vec<u8>> {
-        let size = self.size(LONGEST)?;
+        self.buffer_up_to(LONGEST)
+    }
+
+    /// The lent buffer of an `s` case.
+    pub fn shown_buffer(&mut self) -> Taken<Vec<u8>> {
+        self.buffer_up_to(LONGEST_SHOWN)
+    }
+
+    fn buffer_up_to(&mut self, most: usize) -> Taken<Vec<u8>> {
+        let size = self.size(most)?;
         Ok((0..size).map(|index| ((index * 7 + 3) % 251) as u8).collect())
     }
 
@@ -84,6 +94,15 @@ impl<'a> Body<'a> {
         let fill = self.u8()?;
         let prefix = self.take(self.left.len())?;
         Ok(filled(prefix, whole, fill))
+    }
+
+    /// The message of an `s` case: the rest of the body as it is.
+    pub fn shown_message(&mut self) -> Taken<&'a [u8]> {
+        let length = self.left.len();
+        if length > LONGEST_SHOWN {
+            return Err(format!("a message of {length} bytes"));
+        }
+        self.take(length)
     }
 
     /// A text or data of a writer.

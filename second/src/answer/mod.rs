@@ -3,6 +3,7 @@
 mod again;
 mod body;
 mod read;
+mod shown;
 mod write;
 
 use std::io::{self, Read, Write};
@@ -14,6 +15,9 @@ use body::Body;
 
 /// The longest body of a case.
 pub const LONGEST_BODY: usize = 200_000;
+
+/// The longest message and the largest buffer of an `s` case.
+pub const LONGEST_SHOWN: usize = 1_024;
 
 /// The answer line of one case, without its line end. A case that does not
 /// keep the format gives an error.
@@ -32,6 +36,7 @@ pub fn answer(op: u8, body: &[u8]) -> Result<String, String> {
         b'c' => write::getcreds(&mut body)?,
         b'e' => write::unknown_response(&mut body)?,
         b'g' => again::line(&mut body)?,
+        b's' => shown::line(&mut body)?,
         _ => return Err(format!("no such op: {op}")),
     };
     body.end()?;

@@ -11,8 +11,8 @@ use crate::value::{Part, Value};
 /// So many names of a reply stand singly in its line.
 const SINGLE_NAMES: usize = 200;
 
-const REQUEST_PARTS: [&str; 6] = ["path", "target", "linkpath", "old_path", "new_path", "data"];
-const REPLY_PARTS: [&str; 3] = ["resolved", "data", "creds"];
+pub const REQUEST_PARTS: [&str; 6] = ["path", "target", "linkpath", "old_path", "new_path", "data"];
+pub const REPLY_PARTS: [&str; 3] = ["resolved", "data", "creds"];
 
 pub fn request_line(message: &[u8]) -> String {
     let parts = REQUEST_PARTS.map(|name| request_part(message, name));
@@ -72,7 +72,7 @@ fn fields_text(fields: &[Field], values: &[Value]) -> String {
     text
 }
 
-fn part_text(part: &Part) -> String {
+pub fn part_text(part: &Part) -> String {
     format!("{}:{}:{}", part.start, part.bytes.len(), hash(part.bytes))
 }
 

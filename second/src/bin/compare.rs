@@ -1,5 +1,5 @@
-//! Runs fresh cases through a given program and through this one, and
-//! compares the answers as they come.
+//! Runs cases through a given program and through this one, and compares the
+//! answers as they come. The cases are fresh ones, or those of `second make`.
 
 use std::env;
 use std::process::ExitCode;
@@ -13,7 +13,7 @@ const LIMIT: Duration = Duration::from_secs(60);
 
 fn main() -> ExitCode {
     let Some(plan) = plan(env::args().skip(1).collect()) else {
-        eprintln!("usage: compare [--ops=OPS] SEED COUNT PROGRAM [ARGUMENT...]");
+        eprintln!("usage: compare [--fixed] [--ops=OPS] SEED COUNT PROGRAM [ARGUMENT...]");
         return ExitCode::from(FAULT);
     };
     let begin = Instant::now();
@@ -31,17 +31,22 @@ fn main() -> ExitCode {
 }
 
 fn plan(mut words: Vec<String>) -> Option<Plan> {
+    let fixed = words.first()? == "--fixed";
+    if fixed {
+        words.remove(0);
+    }
     let mut ops = OPS.to_string();
     if let Some(chosen) = words.first()?.strip_prefix("--ops=") {
         ops = chosen.to_string();
         words.remove(0);
     }
-    let (fixed, arguments) = words.split_at_checked(3)?;
+    let (first, arguments) = words.split_at_checked(3)?;
     let plan = Plan {
-        seed: fixed[0].parse().ok()?,
-        count: fixed[1].parse().ok()?,
+        seed: first[0].parse().ok()?,
+        count: first[1].parse().ok()?,
         ops,
-        program: fixed[2].clone(),
+        fixed,
+        program: first[2].clone(),
         arguments: arguments.to_vec(),
         limit: LIMIT,
     };

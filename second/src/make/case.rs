@@ -108,6 +108,11 @@ pub fn again(side: Side, room: usize, message: &Filled) -> Case {
     Case::new(b'g').number(1, side as u64).number(4, room as u64).message(message)
 }
 
+/// The message stands in the body as it is.
+pub fn shown(side: Side, room: usize, message: &[u8]) -> Case {
+    Case::new(b's').number(1, side as u64).number(4, room as u64).bytes(message)
+}
+
 pub fn write_request(room: usize, id: u32, kind: u8, fields: &[u8]) -> Case {
     Case::writer(b'w', room, id).number(1, u64::from(kind)).bytes(fields)
 }

@@ -3,7 +3,7 @@
 use crate::hex::from_hex;
 use crate::make::case::{again, front, listing, read, Case, Filled, Side};
 
-const REQUESTS: [&str; 13] = [
+pub const REQUESTS: [&str; 13] = [
     "",
     "00000001 02 00000001 2f",
     "00000001 02 00000001 2f ff",
@@ -19,7 +19,7 @@ const REQUESTS: [&str; 13] = [
     "00000005 0f 00000003 eda080",
 ];
 
-const REPLIES: [&str; 14] = [
+pub const REPLIES: [&str; 14] = [
     "00000001 82 fffffffe",
     "00000001 82 00000000",
     "00000009 90 00000002 00000001 61",

@@ -9,6 +9,9 @@ mod list_long;
 mod list_methods;
 mod list_results;
 mod list_rows;
+mod list_shown_names;
+mod list_shown_replies;
+mod list_shown_requests;
 mod list_text;
 mod list_types;
 mod list_write_names;
@@ -18,6 +21,7 @@ mod prng;
 mod put;
 mod random;
 mod random_messages;
+mod random_shown;
 mod random_values;
 mod random_writers;
 mod styles;
@@ -27,8 +31,9 @@ use std::collections::HashSet;
 use case::Case;
 use prng::Prng;
 
-/// The cases that every run begins with, whatever its seed, each once.
-pub fn fixed_list() -> Vec<Case> {
+/// The cases of some ops that every run begins with, whatever its seed, each
+/// once.
+pub fn fixed_list(ops: &str) -> Vec<Case> {
     let mut out = Vec::new();
     list_rows::add(&mut out);
     list_types::add(&mut out);
@@ -43,17 +48,23 @@ pub fn fixed_list() -> Vec<Case> {
     list_write_replies::add(&mut out);
     list_write_names::add(&mut out);
     list_front::add(&mut out);
+    list_shown_requests::add(&mut out);
+    list_shown_replies::add(&mut out);
+    list_shown_names::add(&mut out);
     let mut met = HashSet::new();
-    out.retain(|case| met.insert(case.framed()));
+    out.retain(|case| ops.contains(char::from(case.op)) && met.insert(case.framed()));
     out
 }
 
-/// Every op that cases have.
+/// The ops of a run that names none.
 pub const OPS: &str = "qplfwurdxceg";
+
+/// The op that a run has only where it is named.
+pub const SHOWN_OP: char = 's';
 
 /// Some ops, and no other letter.
 pub fn known_ops(ops: &str) -> bool {
-    !ops.is_empty() && ops.chars().all(|op| OPS.contains(op))
+    !ops.is_empty() && ops.chars().all(|op| op == SHOWN_OP || OPS.contains(op))
 }
 
 /// The cases of one run, without end, of some ops.
@@ -70,7 +81,7 @@ impl Cases {
 
     /// The fixed list, then cases that follow from the seed.
     pub fn of(seed: u64, ops: &str) -> Cases {
-        Cases::behind(fixed_list(), seed, ops)
+        Cases::behind(fixed_list(ops), seed, ops)
     }
 
     /// The cases that follow from the seed, without the fixed list.
@@ -82,6 +93,14 @@ impl Cases {
         assert!(known_ops(ops));
         Cases { fixed: fixed.into_iter(), prng: Prng::new(seed), ops: ops.to_string() }
     }
+
+    /// A case that follows from the seed, of any op.
+    fn random(&mut self) -> Case {
+        if self.ops.contains(SHOWN_OP) && self.prng.chance(50) {
+            return random_shown::case(&mut self.prng);
+        }
+        random::case(&mut self.prng)
+    }
 }
 
 impl Iterator for Cases {
@@ -90,7 +109,7 @@ impl Iterator for Cases {
     fn next(&mut self) -> Option<Case> {
         loop {
             let fixed = self.fixed.next();
-            let case = fixed.unwrap_or_else(|| random::case(&mut self.prng));
+            let case = fixed.unwrap_or_else(|| self.random());
             if self.ops.contains(char::from(case.op)) {
                 return Some(case);
             }

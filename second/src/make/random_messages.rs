@@ -70,7 +70,7 @@ fn near_type(prng: &mut Prng, kind: u8) -> u8 {
     }
 }
 
-fn mutate(prng: &mut Prng, draft: &mut Draft) {
+pub fn mutate(prng: &mut Prng, draft: &mut Draft) {
     let bytes = &mut draft.bytes;
     let at = prng.below(bytes.len().max(1));
     match prng.below(10) {

@@ -1,0 +1,90 @@
+-- Laws for hosts: what a reading shows, given to a writer, are the values that were read. Assumes nothing.
+use mathlib.Core.Path.{_≡_, refl, sym, ap, ap₂, _∙_}
+use mathlib.Core.Bool.{Bool, true, false}
+use mathlib.Core.List.{List, [], _∷_}
+use Prim.Native.Nat.{ℕ, _+_, _%_, _^_, _<_}
+use native.Mathlib.Nat.{add-zero}
+use native.Mathlib.Omega.{arith}
+use lib.IntN.{ℤ, pos, negsuc}
+use lib.ListN.{getD, drop}
+use lib.Seq.{getD-drop, drop-drop}
+use Rattle.number.specs.TwosComplement.{signedOf, bitsOf, Signed, not-negative, negative}
+use Rattle.number.proofs.TwosComplement.{signed-bits, bits-below}
+use Rattle.layout.specs.Kinds.{Num, u8, i8, u32, i32, u64, bool, Kind, num, string, bytes, strings}
+use Rattle.layout.specs.Values.{Part, Value, number, signed, truth, run, runs, bytesIn, content, contents, NumFits, fits-u8, fits-u32, fits-u64, fits-i8, fits-i32, fits-bool, Fits, fits-num, fits-string, fits-bytes, fits-strings, AllFit, none, more}
+use Rattle.layout.specs.Writing.{bit}
+use Rattle.layout.proofs.Tests.{never}
+use Rattle.exports.specs.Given.{valueBy, given}
+
+-- the numbers that fields show, without the cells of texts, data and names
+abbrev pub numberCells : List (Value Part) → List ℕ
+numberCells [] = []
+numberCells (number n ∷ vs) = n ∷ numberCells vs
+numberCells (signed z ∷ vs) = bitsOf 4 z ∷ numberCells vs
+numberCells (truth b ∷ vs) = bit b ∷ numberCells vs
+numberCells (run x ∷ vs) = numberCells vs
+numberCells (runs xs ∷ vs) = numberCells vs
+
+-- the bytes of their texts and data
+abbrev pub runBytes : List ℕ → List (Value Part) → List (List ℕ)
+runBytes m [] = []
+runBytes m (number n ∷ vs) = runBytes m vs
+runBytes m (signed z ∷ vs) = runBytes m vs
+runBytes m (truth b ∷ vs) = runBytes m vs
+runBytes m (run x ∷ vs) = bytesIn m x ∷ runBytes m vs
+runBytes m (runs xs ∷ vs) = runBytes m vs
+
+-- ---- one number
+
+-- the low byte of a small number's 32 bits is its byte
+low-byte : {z : ℤ} → Signed 1 z → bitsOf 4 z % 0x100 ≡ bitsOf 1 z
+unfolding bitsOf
+low-byte (not-negative h) = omega arith
+low-byte (negative h) = omega arith
+
+number-again : {k : Num} {n : ℕ} → NumFits k (number n) → valueBy k n ≡ number n
+number-again (fits-u8 {n = n} h) = let e : n % 0x100 ≡ n = omega arith in ap number e
+number-again (fits-u32 {n = n} h) = let e : n % 0x1_0000_0000 ≡ n = omega arith in ap number e
+number-again (fits-u64 h) = refl
+
+signed-again : {k : Num} {z : ℤ} → NumFits k (signed z) → valueBy k (bitsOf 4 z) ≡ signed z
+signed-again (fits-i8 h) = ap signed (ap (signedOf 1) (low-byte h) ∙ signed-bits 1 h)
+signed-again (fits-i32 {z = z} h) =
+    let l : bitsOf 4 z < 256 ^ 4 = bits-below 4 h in
+    let e : bitsOf 4 z % 0x1_0000_0000 ≡ bitsOf 4 z = omega arith in
+    ap signed (ap (signedOf 4) e ∙ signed-bits 4 h)
+
+truth-again : {k : Num} (b : Bool) → NumFits k (truth b) → valueBy k (bit b) ≡ truth b
+truth-again true (fits-bool b) = refl
+truth-again false (fits-bool b) = refl
+
+-- ---- fields
+
+module _ (ns : List ℕ) (i : ℕ) {n : ℕ} {later : List ℕ} (e : drop i ns ≡ n ∷ later) where
+  first-given : getD ns i 0 ≡ n
+  first-given = ap (λ (j : ℕ). getD ns j 0) (sym (add-zero i)) ∙ sym (getD-drop i ns 0 0) ∙ ap (λ (l : List ℕ). getD l 0 0) e
+
+  rest-given : drop (i + 1) ns ≡ later
+  rest-given = sym (drop-drop 1 i ns) ∙ ap (λ (l : List ℕ). drop 1 l) e
+
+abbrev noNames : List (Value Part) → Bool
+noNames [] = true
+noNames (number n ∷ vs) = noNames vs
+noNames (signed z ∷ vs) = noNames vs
+noNames (truth b ∷ vs) = noNames vs
+noNames (run x ∷ vs) = noNames vs
+noNames (runs xs ∷ vs) = false
+
+-- fields of a message m, none of them names, given by their numbers and the bytes of their texts and data
+pub given-again : (m : List ℕ) {ks : List Kind} (vs : List (Value Part)) → AllFit ks (contents m vs) → noNames vs ≡ true → (ns : List ℕ) (i : ℕ)
+    → drop i ns ≡ numberCells vs → given ks ns i (runBytes m vs) [] ≡ contents m vs
+given-again m [] none h ns i e = refl
+given-again m (number n ∷ vs) (more (fits-num {k = k} f) t) h ns i e =
+    ap₂ (λ v us. v ∷ us) (ap (valueBy k) (first-given ns i e) ∙ number-again f) (given-again m vs t h ns (i + 1) (rest-given ns i e))
+given-again m (signed z ∷ vs) (more (fits-num {k = k} f) t) h ns i e =
+    ap₂ (λ v us. v ∷ us) (ap (valueBy k) (first-given ns i e) ∙ signed-again f) (given-again m vs t h ns (i + 1) (rest-given ns i e))
+given-again m (truth b ∷ vs) (more (fits-num {k = k} f) t) h ns i e =
+    ap₂ (λ v us. v ∷ us) (ap (valueBy k) (first-given ns i e) ∙ truth-again b f) (given-again m vs t h ns (i + 1) (rest-given ns i e))
+given-again m (run x ∷ vs) (more (fits-string s) t) h ns i e = ap (λ us. run (bytesIn m x) ∷ us) (given-again m vs t h ns i e)
+given-again m (run x ∷ vs) (more (fits-bytes s) t) h ns i e = ap (λ us. run (bytesIn m x) ∷ us) (given-again m vs t h ns i e)
+given-again m (runs xs ∷ vs) f h ns i e = never h

@@ -1,0 +1,4 @@
+-- The laws for hosts, and what the proofs of the exported functions share.
+pub mod GivenAgain
+pub mod SoundHolds
+pub mod Telling

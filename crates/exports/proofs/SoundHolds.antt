@@ -1,0 +1,184 @@
+-- Laws for hosts. Every part of an accepted message lies inside it, and its texts and names are well-formed: what a host needs to show
+-- them as text without another check. Of both sides, once over the layout. Assumes nothing.
+use mathlib.Core.Path.{_≡_, refl, sym, ap, _∙_}
+use mathlib.Core.Bool.{Bool, true, false, cond}
+use mathlib.Core.List.{List, [], _∷_, _++_}
+use Prim.Native.Nat.{ℕ, zero, suc, _≤_}
+use native.Mathlib.Omega.{arith}
+use lib.Dec.{eqb, leb}
+use lib.IntN.{ℤ}
+use lib.ListN.{length, take, getD}
+use borrow.Author.Tests.{leb-true}
+use Rattle.text.specs.Utf8.{wellFormed}
+use Rattle.method.specs.Methods.{Found, found, unknown as no-method, ofRequest, ofReply}
+use Rattle.method.proofs.Table.{request-passes, reply-passes}
+use Rattle.layout.specs.Kinds.{Num, u8, i8, u32, i32, u64, bool, Kind, num, string, bytes, strings, kinds}
+use Rattle.layout.specs.Table.{Side, request, reply, unknownResponse, Plan, unexpected, header, asked, plain, led, planOf, row, requestPlan, replyPlan, plan}
+use Rattle.layout.specs.Values.{Part, Value, signed, runs, runsOf}
+use Rattle.layout.specs.Reading.{Shape, unknown, known, failure, success, anyBytes, valueOf, accepted, read}
+use Rattle.layout.specs.Pieces.{kindsOf}
+use Rattle.layout.specs.Names.{namesAmong, Position, position, firstName, opened, Step, name, ended, step, steps}
+use Rattle.layout.proofs.Trace.{SizedHere, sized-here, StringsHere, no-string, a-string-more, FieldHere, a-num, a-string, a-bytes, a-strings, FieldsHere, no-field, a-field-more, BodyHere, header-only, an-asked, a-plain, a-failure, a-success, message-traced}
+use Rattle.layout.proofs.Iterating.{ended-stays, opened-steps}
+use Rattle.exports.specs.Shown.{cells, allCells, padded, cellCount, readingOf}
+use Rattle.exports.specs.Sound.{Inside, Text, Sound, no-more, a-number, a-text, some-bytes, some-names, namesMet, AllText, no-text, a-text-more}
+
+-- ---- the cells of all fields
+
+module _ {m : List ℕ} where
+  text-here : {p : ℕ} {x : Part} → SizedHere wellFormed m p x → Text m (x .start) (x .size)
+  text-here (sized-here h r) = record { fits = r .fits; good = r .good }
+
+  inside-here : {p : ℕ} {x : Part} → SizedHere anyBytes m p x → Inside m (x .start) (x .size)
+  inside-here (sized-here h r) = record { fits = r .fits }
+
+  -- a number has one cell
+  number-sound : (k : Num) (n : ℕ) {ks : List Kind} {cs : List ℕ} → Sound m ks cs → Sound m (num k ∷ ks) (cells (valueOf k n) ++ cs)
+  number-sound u8 n t = a-number t
+  number-sound i8 n t = a-number t
+  number-sound u32 n t = a-number t
+  number-sound i32 n t = a-number t
+  number-sound u64 n t = a-number t
+  number-sound bool n t = a-number t
+
+  fields-sound : {ks : List Kind} {p q : ℕ} {vs : List (Value Part)} → FieldsHere m ks p vs q → Sound m ks (allCells vs)
+  fields-sound no-field = no-more
+  fields-sound (a-field-more (a-num {k = k} {n = n} h) t) = number-sound k n (fields-sound t)
+  fields-sound (a-field-more (a-string h) t) = a-text (text-here h) (fields-sound t)
+  fields-sound (a-field-more (a-bytes h) t) = some-bytes (inside-here h) (fields-sound t)
+  fields-sound (a-field-more (a-strings h s) t) = some-names (fields-sound t)
+
+  body-sound : {pl : Plan} {p q : ℕ} {s : Shape} {vs : List (Value Part)} → BodyHere m pl p s vs q → Sound m (kindsOf pl s) (allCells vs)
+  body-sound header-only = no-more
+  body-sound (an-asked t) = fields-sound t
+  body-sound (a-plain t) = fields-sound t
+  body-sound (a-failure h e) = a-number no-more
+  body-sound (a-success h e t c) = a-number (fields-sound t)
+
+-- ---- they fit into those of an answer
+
+-- how many cells fields of these kinds have
+abbrev cellsIn : List Kind → ℕ
+cellsIn [] = 0
+cellsIn (num k ∷ ks) = suc (cellsIn ks)
+cellsIn (string ∷ ks) = suc (suc (cellsIn ks))
+cellsIn (bytes ∷ ks) = suc (suc (cellsIn ks))
+cellsIn (strings ∷ ks) = suc (suc (cellsIn ks))
+
+-- the most that a message of this type has
+abbrev most : Plan → ℕ
+most unexpected = 0
+most header = 0
+most (asked ks) = cellsIn ks
+most (plain ks) = cellsIn ks
+most (led c ks) = suc (cellsIn ks)
+
+abbrev few : Plan → Bool
+few pl = leb (most pl) cellCount
+
+-- one test over the table
+table-few : (side : Side) (t : ℕ) → few (plan side t) ≡ true
+unfolding plan
+table-few request t = go (ofRequest t) refl
+  where
+    go : (f : Found) → ofRequest t ≡ f → few (requestPlan f) ≡ true
+    go (found x) e = request-passes (λ y. few (asked (kinds (row y .request)))) refl t e
+    go no-method e = refl
+table-few reply t = go (eqb t unknownResponse) (ofReply t) refl
+  where
+    found-few : (f : Found) → ofReply t ≡ f → few (replyPlan f) ≡ true
+    found-few (found x) e = reply-passes (λ y. few (planOf (row y .reply))) refl t e
+    found-few no-method e = refl
+
+    go : (b : Bool) (f : Found) → ofReply t ≡ f → few (cond b header (replyPlan f)) ≡ true
+    go true f e = refl
+    go false f e = found-few f e
+
+shape-few : (pl : Plan) (s : Shape) → cellsIn (kindsOf pl s) ≤ most pl
+shape-few unexpected s = omega arith
+shape-few header s = omega arith
+shape-few (asked ks) s = omega arith
+shape-few (plain ks) s = omega arith
+shape-few (led c ks) unknown = omega arith
+shape-few (led c ks) known = omega arith
+shape-few (led c ks) failure = omega arith
+shape-few (led c ks) success = omega arith
+
+kept : {m : List ℕ} {ks : List Kind} {cs : List ℕ} → Sound m ks cs → (n : ℕ) → cellsIn ks ≤ n → Sound m ks (padded n cs)
+kept no-more n h = no-more
+kept (a-number t) zero h = let none : ⊥ = omega arith in absurd none
+kept (a-number t) (suc n) h = a-number (kept t n (omega arith))
+kept (a-text x t) zero h = let none : ⊥ = omega arith in absurd none
+kept (a-text x t) (suc zero) h = let none : ⊥ = omega arith in absurd none
+kept (a-text x t) (suc (suc n)) h = a-text x (kept t n (omega arith))
+kept (some-bytes x t) zero h = let none : ⊥ = omega arith in absurd none
+kept (some-bytes x t) (suc zero) h = let none : ⊥ = omega arith in absurd none
+kept (some-bytes x t) (suc (suc n)) h = some-bytes x (kept t n (omega arith))
+kept (some-names t) zero h = let none : ⊥ = omega arith in absurd none
+kept (some-names t) (suc zero) h = let none : ⊥ = omega arith in absurd none
+kept (some-names t) (suc (suc n)) h = some-names (kept t n (omega arith))
+
+-- the cells of a reading
+pub reading-sound : (side : Side) {m : List ℕ} {s : Shape} {i t k : ℕ} {vs : List (Value Part)} → read side m ≡ accepted s i t vs k
+    → Sound m (kindsOf (plan side t) s) (readingOf (read side m) .fields)
+reading-sound side {m} {s} {i} {t} {k} {vs} e =
+    let f : most (plan side t) ≤ cellCount = leb-true (most (plan side t)) cellCount (table-few side t) in
+    let g : cellsIn (kindsOf (plan side t) s) ≤ most (plan side t) = shape-few (plan side t) s in
+    rw e (kept (body-sound (message-traced e .rest)) cellCount (omega arith))
+
+-- ---- the names
+
+-- where there is no name, no further step gives one
+ended-for-ever : (n : ℕ) (m : List ℕ) (w : Position) {v : Position} → step m w ≡ ended v → steps n m w ≡ []
+ended-for-ever zero m w e = refl
+ended-for-ever (suc n) m w e = rw e (rw (ended-stays m w e) (ended-for-ever n m w e))
+
+-- a host meets what the iterator gives
+met-steps : (n : ℕ) (m : List ℕ) (at left : ℕ) → namesMet n m at left ≡ steps n m (position at left)
+met-steps zero m at left = refl
+met-steps (suc n) m at left = go (step m (position at left)) refl (λ p l. met-steps n m p l)
+  where
+    go : (o : Step) → step m (position at left) ≡ o → ((p l : ℕ) → namesMet n m p l ≡ steps n m (position p l))
+        → namesMet (suc n) m at left ≡ steps (suc n) m (position at left)
+    go (name x w) e later = rw e (ap (λ (xs : List Part). x ∷ xs) (later (w .at) (w .left)))
+    go (ended v) e later = rw e (sym (rw (ended-stays m (position at left) e) (ended-for-ever n m (position at left) e)))
+
+module _ {m : List ℕ} where
+  texts-here : {n p q : ℕ} {xs : List Part} → StringsHere m n p xs q → AllText m xs
+  texts-here no-string = no-text
+  texts-here (a-string-more h t) = a-text-more (text-here h) (texts-here t)
+
+  number-nameless : (k : Num) (n : ℕ) → AllText m (runsOf (valueOf {A = Part} k n))
+  number-nameless u8 n = no-text
+  number-nameless i8 n = no-text
+  number-nameless u32 n = no-text
+  number-nameless i32 n = no-text
+  number-nameless u64 n = no-text
+  number-nameless bool n = no-text
+
+  value-texts : {k : Kind} {p q : ℕ} {v : Value Part} → FieldHere m k p v q → AllText m (runsOf v)
+  value-texts (a-num {k = k} {n = n} h) = number-nameless k n
+  value-texts (a-string h) = no-text
+  value-texts (a-bytes h) = no-text
+  value-texts (a-strings h t) = texts-here t
+
+  fields-texts : {ks : List Kind} {p q : ℕ} {vs : List (Value Part)} → FieldsHere m ks p vs q → AllText m (namesAmong vs)
+  fields-texts no-field = no-text
+  fields-texts (a-field-more h no-field) = no-text
+  fields-texts (a-field-more h (a-field-more g t)) = value-texts g
+
+  body-texts : {pl : Plan} {p q : ℕ} {s : Shape} {vs : List (Value Part)} → BodyHere m pl p s vs q → AllText m (namesAmong vs)
+  body-texts header-only = no-text
+  body-texts (an-asked t) = fields-texts t
+  body-texts (a-plain t) = fields-texts t
+  body-texts (a-failure h e) = no-text
+  body-texts (a-success h e no-field c) = no-text
+  body-texts (a-success h e (a-field-more g t) c) = value-texts g
+
+-- the names of a reply, met from the position that its cells are: all of them in their order, and each is text
+pub names-sound : (m : List ℕ) {i t k : ℕ} {z : ℤ} {xs : List Part} → read reply m ≡ accepted success i t (signed z ∷ runs xs ∷ []) k → (n : ℕ)
+    → (namesMet n m (getD (readingOf (read reply m) .fields) 1 0) (getD (readingOf (read reply m) .fields) 2 0) ≡ take n xs) × AllText m xs
+unfolding opened
+names-sound m {xs = xs} e n =
+    let met : namesMet n m firstName (length xs) ≡ take n xs = met-steps n m firstName (length xs) ∙ (rw e at (opened-steps n m)) in
+    (rw e met, body-texts (message-traced e .rest))

@@ -1,0 +1,3 @@
+-- What the proofs of both readers use.
+mod Signs
+mod Typed

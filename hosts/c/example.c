@@ -1,0 +1,153 @@
+/* A provider's turn in C: a request read, listed and put to the front; replies written and read back. */
+#include <stdio.h>
+#include <string.h>
+
+#include "tushalets.h"
+
+/* Cells of the fields that are shown here (the table in tushalets.h). */
+enum { RESULT = 0, ACCESS_PATH = 0, ACCESS_MODE = 2, READDIR_ITEMS = 1 };
+
+/* Bytes of an unknown response, of a failure, and of a read reply with one byte of data. */
+enum { HEADER_SIZE = 5, FAILURE_SIZE = 9, READ_REPLY_SIZE = 14 };
+
+/* The result for a file that is not there. */
+enum { ENOENT_RESULT = -2 };
+
+enum { ROOM = 64, FILLING = 0xaa };
+
+/* access, id 7, path "/a", mode 4 */
+static const uint8_t access_request[] = {0, 0, 0, 7, TUSHALETS_ACCESS, 0, 0, 0, 2, '/', 'a', 4};
+
+/* unlink, id 5, with a path that is no text */
+static const uint8_t damaged_request[] = {0, 0, 0, 5, TUSHALETS_UNLINK, 0, 0, 0, 1, 0x80};
+
+/* id 35, a type that no method has */
+static const uint8_t unknown_request[] = {0, 0, 0, 0x23, 0x42};
+
+/* For arguments that a type does not have: words that are not looked at, and pointers that are not null. */
+static const uint64_t no_numbers[14] = {0};
+static const uint8_t no_bytes[1] = {0};
+static const uint32_t no_lengths[1] = {0};
+
+static void print_bytes(const uint8_t *bytes, size_t len)
+{
+    size_t i;
+    for (i = 0; i < len; i++) printf(" %02x", bytes[i]);
+    printf("\n");
+}
+
+static void print_text(const uint8_t *bytes, size_t len)
+{
+    fwrite(bytes, 1, len, stdout);
+}
+
+static void show_request(const uint8_t *message, size_t len)
+{
+    uint8_t listing[TUSHALETS_LONGEST_LISTING];
+    tushalets_reading request = tushalets_read_request(message, len);
+    tushalets_written listed = tushalets_list_request(message, len, listing, sizeof listing);
+    if (request.shape != TUSHALETS_SHAPE_KNOWN || request.type != TUSHALETS_ACCESS) return;
+    printf("request access id %u path ", request.id);
+    print_text(message + request.fields[ACCESS_PATH], request.fields[ACCESS_PATH + 1]);
+    printf(" mode %d known %zu of %zu\n", (int)(int32_t)(uint32_t)request.fields[ACCESS_MODE], request.known, len);
+    printf("listing\n");
+    print_text(listing, listed.len);
+}
+
+static void show_front(const char *which, const uint8_t *message, size_t len, size_t room)
+{
+    uint8_t out[ROOM];
+    tushalets_fronted fronted = tushalets_front(message, len, out, room);
+    printf("front, %s, room %zu:", which, room);
+    switch (fronted.act) {
+    case TUSHALETS_ACT_HANDED_ON:
+        printf(" handed on\n");
+        break;
+    case TUSHALETS_ACT_STORED:
+        print_bytes(out, fronted.len);
+        break;
+    default:
+        printf(" refused %u at %zu\n", fronted.number, fronted.place);
+    }
+}
+
+static void show_names(const uint8_t *message, size_t len, const tushalets_reading *reply)
+{
+    size_t first = reply->fields[READDIR_ITEMS];
+    uint32_t count = (uint32_t)reply->fields[READDIR_ITEMS + 1];
+    tushalets_name step = tushalets_next_name(message, len, first, count);
+    while (step.found) {
+        printf("name ");
+        print_text(message + step.start, step.len);
+        printf("\n");
+        step = tushalets_next_name(message, len, step.at, step.left);
+    }
+}
+
+static void show_reply(const uint8_t *message, size_t len)
+{
+    tushalets_reading reply = tushalets_read_reply(message, len);
+    const char *shape = reply.shape == TUSHALETS_SHAPE_FAILURE ? "failure" : "success";
+    if (reply.shape == TUSHALETS_SHAPE_REFUSED) {
+        printf("refused %u at %zu\n", reply.number, reply.place);
+        return;
+    }
+    printf("reply %02x id %u %s %d", reply.type, reply.id, shape, (int)(int32_t)(uint32_t)reply.fields[RESULT]);
+    printf(" known %zu of %zu\n", reply.known, len);
+    if (reply.shape == TUSHALETS_SHAPE_SUCCESS && reply.type == TUSHALETS_READDIR + TUSHALETS_REPLY) {
+        show_names(message, len, &reply);
+    }
+}
+
+static void show_replies(void)
+{
+    static const uint8_t names[] = {'.', '.', '.', 'h', 'e', 'l', 'l', 'o'};
+    static const uint32_t lengths[] = {1, 2, 5};
+    uint8_t out[ROOM];
+    tushalets_written written;
+
+    written = tushalets_write_failure(7, TUSHALETS_ACCESS + TUSHALETS_REPLY, ENOENT_RESULT, out, sizeof out);
+    printf("written");
+    print_bytes(out, written.len);
+    show_reply(out, written.len);
+
+    written = tushalets_write_reply(2, TUSHALETS_READDIR + TUSHALETS_REPLY, 0, no_numbers, names, sizeof names,
+                                    lengths, sizeof lengths / sizeof lengths[0], out, sizeof out);
+    printf("written");
+    print_bytes(out, written.len);
+    show_reply(out, written.len);
+}
+
+/* A read reply with one byte of data that claims another number of bytes, or has too little room. */
+static void show_refused_write(int32_t result, size_t room)
+{
+    static const uint8_t data[] = {'a'};
+    uint8_t out[ROOM], before[ROOM];
+    tushalets_written written;
+    memset(out, FILLING, sizeof out);
+    memset(before, FILLING, sizeof before);
+    written = tushalets_write_reply(9, TUSHALETS_READ + TUSHALETS_REPLY, result, no_numbers, data, sizeof data,
+                                    no_lengths, 0, out, room);
+    printf("read reply, result %d, room %zu: refused %u at %zu, %zu bytes stored, ", (int)result, room, written.number,
+           written.place, written.len);
+    printf("%s\n", memcmp(out, before, sizeof out) == 0 ? "buffer as before" : "buffer changed");
+}
+
+int main(void)
+{
+    if (!tushalets_fits()) {
+        fprintf(stderr, "example: version %d is needed, %u is linked\n", TUSHALETS_VERSION, tushalets_version());
+        return 1;
+    }
+    printf("version %u\n", tushalets_version());
+    show_request(access_request, sizeof access_request);
+    show_front("whole request", access_request, sizeof access_request, 0);
+    show_front("damaged request", damaged_request, sizeof damaged_request, FAILURE_SIZE);
+    show_front("damaged request", damaged_request, sizeof damaged_request, FAILURE_SIZE - 1);
+    show_front("unknown request", unknown_request, sizeof unknown_request, HEADER_SIZE);
+    show_front("no bytes", no_bytes, 0, ROOM);
+    show_replies();
+    show_refused_write(2, ROOM);
+    show_refused_write(1, READ_REPLY_SIZE - 1);
+    return 0;
+}

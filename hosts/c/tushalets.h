@@ -1,0 +1,241 @@
+/* The webfuse2 message layer for C99 and C++: requests and replies read and written, on numbers and bytes.
+ * x86-64 Linux; link with libtushalets.a. Compare the version once at start (tushalets_fits).
+ *
+ * What a caller owes at each call:
+ *   - Each pointer is valid for its length, in bytes or in words. It is not null, also where the length is 0.
+ *   - `numbers` and `lengths` are aligned for their type. `numbers` has all its words, also where fewer are looked at.
+ *   - Above all, `out` overlaps no other argument. A text is checked before anything is stored, so an overlap could
+ *     change it after its check.
+ *   - Until the call returns, no other thread writes what is read, and none touches `out`.
+ * Anything else is promised: every function ends and gives the right answer for every message and every value. No
+ * message has to be checked beforehand. No function allocates, keeps a pointer or has state. */
+#ifndef TUSHALETS_H
+#define TUSHALETS_H
+
+#include <stddef.h>
+#include <stdint.h>
+
+#ifdef __cplusplus
+extern "C" {
+#endif
+
+/* The version of the functions, their arguments and the cells below. */
+#define TUSHALETS_VERSION 1
+
+/* Bytes of the longest message, and bytes that hold every listing. */
+#define TUSHALETS_LONGEST 65536
+#define TUSHALETS_LONGEST_LISTING 256
+
+/* Types of requests. The type of a method's reply is TUSHALETS_REPLY more. */
+enum {
+    TUSHALETS_ACCESS = 0x01,
+    TUSHALETS_GETATTR = 0x02,
+    TUSHALETS_READLINK = 0x03,
+    TUSHALETS_SYMLINK = 0x04,
+    TUSHALETS_LINK = 0x05,
+    TUSHALETS_RENAME = 0x06,
+    TUSHALETS_CHMOD = 0x07,
+    TUSHALETS_CHOWN = 0x08,
+    TUSHALETS_TRUNCATE = 0x09,
+    TUSHALETS_FSYNC = 0x0a,
+    TUSHALETS_OPEN = 0x0b,
+    TUSHALETS_MKNOD = 0x0c,
+    TUSHALETS_CREATE = 0x0d,
+    TUSHALETS_RELEASE = 0x0e,
+    TUSHALETS_UNLINK = 0x0f,
+    TUSHALETS_READ = 0x10,
+    TUSHALETS_WRITE = 0x11,
+    TUSHALETS_MKDIR = 0x12,
+    TUSHALETS_READDIR = 0x13,
+    TUSHALETS_RMDIR = 0x14,
+    TUSHALETS_STATFS = 0x15,
+    TUSHALETS_UTIMENS = 0x16,
+    TUSHALETS_GETCREDS = 0x17,
+    TUSHALETS_REPLY = 0x80,
+    TUSHALETS_UNKNOWN_RESPONSE = 0x80 /* the reply to a type that no method has */
+};
+
+/* Numbers of refusal. 0 is none. */
+enum {
+    TUSHALETS_TRUNCATED_HEADER = 1,     /* fewer bytes than id and type have */
+    TUSHALETS_OVERSIZE = 2,             /* more than TUSHALETS_LONGEST bytes, read or to be written */
+    TUSHALETS_UNEXPECTED_TYPE = 3,      /* a type that such a message does not have */
+    TUSHALETS_TRUNCATED = 4,            /* a number or bytes of a declared length do not fit into the message */
+    TUSHALETS_MALFORMED_TEXT = 5,       /* a string is no well-formed UTF-8 */
+    TUSHALETS_DATA_LENGTH_MISMATCH = 6, /* the result of a read reply is not the length of its data */
+    TUSHALETS_BUFFER_TOO_SMALL = 7,     /* `out` is shorter than what is to be stored */
+    TUSHALETS_RESULT_SIGN = 8,          /* a success with a negative result, or a failure without one */
+    TUSHALETS_LENGTHS_MISMATCH = 9      /* the lengths of names do not sum to their bytes */
+};
+
+/* Shapes of a reading. */
+enum {
+    TUSHALETS_SHAPE_REFUSED = 0,
+    TUSHALETS_SHAPE_UNKNOWN = 1, /* an unknown request, or the unknown response */
+    TUSHALETS_SHAPE_KNOWN = 2,   /* a request of one of the methods */
+    TUSHALETS_SHAPE_FAILURE = 3, /* a reply with a negative result */
+    TUSHALETS_SHAPE_SUCCESS = 4  /* any other reply of one of the methods */
+};
+
+/* What the front did. */
+enum {
+    TUSHALETS_ACT_HANDED_ON = 0,
+    TUSHALETS_ACT_STORED = 1,
+    TUSHALETS_ACT_REFUSED = 2
+};
+
+/* Cells of a reading: its fields in the order of the page, and 0 behind them.
+ *   u8, u32, u64     one cell
+ *   i8, i32          one cell with the 32 bits of the number: (int32_t)(uint32_t)fields[n]
+ *   bool             one cell, 0 or 1
+ *   timestamp        two cells: seconds, nsec
+ *   string, bytes    two cells: where the bytes begin in the message, and how many they are. A string is well-formed
+ *                    UTF-8. No zero byte ends it, and there may be some inside
+ *   strings          two cells: the place of the first name, and how many names there are. They are `at` and `left`
+ *                    for tushalets_next_name
+ *
+ *   access request     path 0,1  mode 2 (i8)
+ *   getattr request    path 0,1
+ *   readlink request   path 0,1
+ *   symlink request    target 0,1  linkpath 2,3
+ *   link request       old_path 0,1  new_path 2,3
+ *   rename request     old_path 0,1  new_path 2,3  flags 4
+ *   chmod request      path 0,1  mode 2
+ *   chown request      path 0,1  uid 2  gid 3
+ *   truncate request   path 0,1  size 2  handle 3
+ *   fsync request      path 0,1  is_datasync 2 (bool)  handle 3
+ *   open request       path 0,1  flags 2 (i32)
+ *   mknod request      path 0,1  mode 2  dev 3
+ *   create request     path 0,1  mode 2
+ *   release request    path 0,1  handle 2
+ *   unlink request     path 0,1
+ *   read request       path 0,1  buffer_size 2  offset 3  handle 4
+ *   write request      data 0,1  offset 2  handle 3
+ *   mkdir request      path 0,1  mode 2
+ *   readdir request    path 0,1
+ *   rmdir request      path 0,1
+ *   statfs request     path 0,1
+ *   utimens request    path 0,1  atime 2,3  mtime 4,5  handle 6
+ *   getcreds request   none
+ *
+ *   getattr reply      result 0 (i32)  inode 1  nlink 2  mode 3  uid 4  gid 5  rdev 6  size 7  blocks 8
+ *                      atime 9,10  mtime 11,12  ctime 13,14
+ *   readlink reply     result 0 (i32)  resolved 1,2
+ *   open reply         result 0 (i32)  handle 1
+ *   create reply       result 0 (i32)  handle 1
+ *   read reply         result 0 (i32)  data 1,2
+ *   readdir reply      result 0 (i32)  items 1,2
+ *   statfs reply       result 0 (i32)  bsize 1  frsize 2  blocks 3  bfree 4  bavail 5  files 6  ffree 7  namemax 8
+ *   getcreds reply     creds 0,1
+ *   each other reply   result 0 (i32): access, symlink, link, rename, chmod, chown, truncate, fsync, mknod, release,
+ *                      unlink, write, mkdir, rmdir, utimens
+ *   failure            result 0 (i32), of every method but getcreds, which has none
+ *   unknown            none, request or response */
+
+/* The answer of a reader. A refusal has `number` (1 to 6) and `place`, and all else is 0. An accepted message has all
+ * but these two, which are 0. */
+typedef struct tushalets_reading {
+    uint32_t shape;
+    uint32_t number;
+    uint32_t id;
+    uint32_t type;
+    size_t place;
+    size_t known; /* the length of the known part; bytes behind it change nothing */
+    uint64_t fields[17];
+} tushalets_reading;
+
+/* A step over the names of a readdir reply. `found` is 1: the name is `len` bytes at `start` of the message, and the
+ * next step goes from `at` and `left`. `found` is 0: there is no further name, and the position stays. */
+typedef struct tushalets_name {
+    uint32_t found;
+    uint32_t left;
+    size_t start;
+    size_t len;
+    size_t at;
+} tushalets_name;
+
+/* The answer of a writer. `number` is 0: `len` bytes were stored at the start of `out`, and the rest of it is as
+ * before. Else it is the number of a refusal (2, 3, 5 to 9), `len` and `place` are 0, and no byte of `out` has
+ * changed. */
+typedef struct tushalets_written {
+    uint32_t number;
+    size_t len;
+    size_t place;
+} tushalets_written;
+
+/* The answer of the front. Stored: `len` bytes at the start of `out`, and the rest is as before. Else no byte of
+ * `out` has changed; a refusal has `number` (1 or 7) and `place`. */
+typedef struct tushalets_fronted {
+    uint32_t act;
+    uint32_t number;
+    size_t len;
+    size_t place;
+} tushalets_fronted;
+
+/* The version of the library that is linked. */
+uint32_t tushalets_version(void);
+
+/* Where the longest well-formed UTF-8 beginning of a text ends: `text_len` exactly where all of it is well-formed. */
+size_t tushalets_well_formed_end(const uint8_t *text, size_t text_len);
+
+/* Reads a request. */
+tushalets_reading tushalets_read_request(const uint8_t *message, size_t message_len);
+
+/* Reads a reply. */
+tushalets_reading tushalets_read_reply(const uint8_t *message, size_t message_len);
+
+/* The next name of a readdir reply that was read. The first position is cells 1 and 2 of the reading, the others are
+ * those of the steps. A position that was made up is harmless: its name lies inside the message, but it may be no
+ * text. */
+tushalets_name tushalets_next_name(const uint8_t *message, size_t message_len, size_t at, uint32_t left);
+
+/* The provider's front: answers a damaged or unknown request into `out`, and hands on a known one that is whole.
+ * Nine bytes suffice. */
+tushalets_fronted tushalets_front(const uint8_t *message, size_t message_len, uint8_t *out, size_t out_len);
+
+/* The listing of a request, also of one that is refused: lines of text. TUSHALETS_LONGEST_LISTING bytes suffice. */
+tushalets_written tushalets_list_request(const uint8_t *message, size_t message_len, uint8_t *out, size_t out_len);
+
+/* Writes a request of one of the methods. `numbers` are the numbers of its row above, in order and without texts and
+ * data: of a read request, buffer_size, offset, handle. Each is in the low bits of its word; a bool is any word but 0.
+ * `first` and `second` are its texts or data, in order. What the type does not have is not looked at. */
+tushalets_written tushalets_write_request(uint32_t id, uint8_t type, const uint64_t numbers[5],
+                                          const uint8_t *first, size_t first_len,
+                                          const uint8_t *second, size_t second_len,
+                                          uint8_t *out, size_t out_len);
+
+/* Writes an unknown request: a type that no method has, five bytes. */
+tushalets_written tushalets_write_unknown_request(uint32_t id, uint8_t type, uint8_t *out, size_t out_len);
+
+/* Writes a success, of getcreds too, which leaves `result` aside. `numbers` are the numbers of its row above behind
+ * the result: of a getattr reply, inode to ctime, all 14. `run` is its text or data. The names of a readdir reply are
+ * `run`, one behind the other, and `lengths`. What the type does not have is not looked at. */
+tushalets_written tushalets_write_reply(uint32_t id, uint8_t type, int32_t result, const uint64_t numbers[14],
+                                        const uint8_t *run, size_t run_len,
+                                        const uint32_t *lengths, size_t lengths_len,
+                                        uint8_t *out, size_t out_len);
+
+/* Writes a failure: nine bytes. `type` is the reply's, of any method but getcreds, and `code` is negative. */
+tushalets_written tushalets_write_failure(uint32_t id, uint8_t type, int32_t code, uint8_t *out, size_t out_len);
+
+/* Writes the unknown response: five bytes. */
+tushalets_written tushalets_write_unknown_response(uint32_t id, uint8_t *out, size_t out_len);
+
+/* Whether the library that is linked has the version of this header. */
+static inline int tushalets_fits(void)
+{
+    return tushalets_version() == TUSHALETS_VERSION;
+}
+
+/* The layout of the answers, in which the library returns them. An array of negative size does not compile. */
+typedef char tushalets_reading_has_168_bytes[sizeof(tushalets_reading) == 168 ? 1 : -1];
+typedef char tushalets_reading_has_fields_at_32[offsetof(tushalets_reading, fields) == 32 ? 1 : -1];
+typedef char tushalets_name_has_32_bytes[sizeof(tushalets_name) == 32 ? 1 : -1];
+typedef char tushalets_written_has_24_bytes[sizeof(tushalets_written) == 24 ? 1 : -1];
+typedef char tushalets_fronted_has_24_bytes[sizeof(tushalets_fronted) == 24 ? 1 : -1];
+
+#ifdef __cplusplus
+}
+#endif
+
+#endif

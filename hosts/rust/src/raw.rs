@@ -1,0 +1,429 @@
+//! The exported functions as they are, made safe for slices: numbers in, numbers out.
+//!
+//! The typed functions of the crate are made of these, and most programs need only those. These are for a program that
+//! keeps numbers, or that writes text it has as bytes. Every function takes every input. What each promises is stated
+//! and proved in the Rattle sources, `crates/exports*`.
+//!
+//! ```
+//! use tushalets::{numbers::{shapes, types}, raw};
+//!
+//! let message = [0, 0, 0, 7, 0x01, 0, 0, 0, 2, b'/', b'a', 4];
+//! let reading = raw::read_request(&message);
+//! assert_eq!((reading.shape, reading.type_number), (shapes::KNOWN, types::ACCESS as u32));
+//! assert_eq!(reading.fields[..3], [9, 2, 4]); // The path is at 9 and has 2 bytes, the mode is 4.
+//! ```
+//!
+//! All unsafe code of the crate is in this file: the calls, and the step from checked bytes to `str`.
+
+use crate::numbers::{shapes, types};
+use crate::Refusal;
+use core::mem::{offset_of, size_of};
+
+/// The answer of a reader.
+#[repr(C)]
+#[derive(Clone, Copy, Debug, PartialEq, Eq)]
+pub struct Reading {
+    /// One of [`shapes`]. A refusal has `number` and `place`, and 0 elsewhere; the others have 0 in these two.
+    pub shape: u32,
+    /// The number of refusal.
+    pub number: u32,
+    /// The message's id.
+    pub id: u32,
+    /// The message's type.
+    pub type_number: u32,
+    /// Where in the message it is refused.
+    pub place: usize,
+    /// The length of the known part.
+    pub known: usize,
+    /// The fields in the order of document 01's table, a reply's result first, and 0 behind them. A number or a bool
+    /// has one cell; a signed number shows its 32 bits. A text or data has two: its start in the message and its
+    /// length. Names have two: the place of the first and their count, from which [`next_name`] goes.
+    pub fields: [u64; 17],
+}
+
+/// A step over the names of a readdir reply.
+#[repr(C)]
+#[derive(Clone, Copy, Debug, PartialEq, Eq)]
+pub struct Name {
+    /// 1 where there is a name, 0 where there is none.
+    pub found: u32,
+    /// How many names are left after it.
+    pub left: u32,
+    /// Where the name's bytes begin in the message.
+    pub start: usize,
+    /// How many they are.
+    pub len: usize,
+    /// Where the next step begins. Without a name the position stays.
+    pub at: usize,
+}
+
+/// The answer of a writer.
+#[repr(C)]
+#[derive(Clone, Copy, Debug, PartialEq, Eq)]
+pub struct Written {
+    /// 0, or the number of refusal.
+    pub number: u32,
+    /// How many bytes were stored at the start of the buffer; 0 of a refusal, which stores none.
+    pub len: usize,
+    /// The place of a refusal: 0 of every writer.
+    pub place: usize,
+}
+
+/// What the front did.
+#[repr(C)]
+#[derive(Clone, Copy, Debug, PartialEq, Eq)]
+pub struct Fronted {
+    /// One of [`acts`](crate::numbers::acts).
+    pub act: u32,
+    /// The number of refusal, where it refused.
+    pub number: u32,
+    /// How many bytes were stored at the start of the buffer.
+    pub len: usize,
+    /// The place of a refusal: 0.
+    pub place: usize,
+}
+
+// The sizes and the place of the array that the compiled code has.
+const _: () = assert!(size_of::<Reading>() == 168 && offset_of!(Reading, fields) == 32);
+const _: () = assert!(size_of::<Name>() == 32 && offset_of!(Name, at) == 24);
+const _: () = assert!(size_of::<Written>() == 24 && offset_of!(Written, place) == 16);
+const _: () = assert!(size_of::<Fronted>() == 24 && offset_of!(Fronted, place) == 16);
+
+extern "C" {
+    fn tushalets_version() -> u32;
+    fn tushalets_well_formed_end(text: *const u8, text_len: usize) -> usize;
+    fn tushalets_read_request(message: *const u8, message_len: usize) -> Reading;
+    fn tushalets_read_reply(message: *const u8, message_len: usize) -> Reading;
+    fn tushalets_next_name(message: *const u8, message_len: usize, at: usize, left: u32) -> Name;
+    fn tushalets_front(message: *const u8, message_len: usize, out: *mut u8, out_len: usize) -> Fronted;
+    fn tushalets_list_request(message: *const u8, message_len: usize, out: *mut u8, out_len: usize) -> Written;
+    fn tushalets_write_request(
+        id: u32,
+        type_number: u8,
+        numbers: *const [u64; 5],
+        first: *const u8,
+        first_len: usize,
+        second: *const u8,
+        second_len: usize,
+        out: *mut u8,
+        out_len: usize,
+    ) -> Written;
+    fn tushalets_write_unknown_request(id: u32, type_number: u8, out: *mut u8, out_len: usize) -> Written;
+    fn tushalets_write_reply(
+        id: u32,
+        type_number: u8,
+        result: i32,
+        numbers: *const [u64; 14],
+        run: *const u8,
+        run_len: usize,
+        lengths: *const u32,
+        lengths_len: usize,
+        out: *mut u8,
+        out_len: usize,
+    ) -> Written;
+    fn tushalets_write_failure(id: u32, type_number: u8, code: i32, out: *mut u8, out_len: usize) -> Written;
+    fn tushalets_write_unknown_response(id: u32, out: *mut u8, out_len: usize) -> Written;
+}
+
+// What a caller owes the exported functions, and how slices meet it: a slice is not null, also of length 0, is aligned,
+// and is valid for its length; nothing writes to a `&` slice meanwhile; `out` is `&mut` and so overlaps nothing. No
+// function has a `requires`, so every value is allowed. None keeps a pointer. The laws that are cited are in
+// crates/exports/proofs/SoundHolds.antt. That the linked code is that of these declarations is what the version and
+// tests/declared.rs are for.
+
+/// The version of the linked code; [`VERSION`](crate::VERSION) is the one that this crate is written for.
+#[inline]
+pub fn version() -> u32 {
+    // SAFETY: no argument, no `requires`.
+    unsafe { tushalets_version() }
+}
+
+/// Where the longest well-formed beginning of `text` ends.
+#[inline]
+pub fn well_formed_end(text: &[u8]) -> usize {
+    // SAFETY: `text` is valid for its length; no `requires`.
+    unsafe { tushalets_well_formed_end(text.as_ptr(), text.len()) }
+}
+
+/// Reads a request.
+#[inline]
+pub fn read_request(message: &[u8]) -> Reading {
+    // SAFETY: `message` is valid for its length; no `requires`.
+    unsafe { tushalets_read_request(message.as_ptr(), message.len()) }
+}
+
+/// Reads a reply.
+#[inline]
+pub fn read_reply(message: &[u8]) -> Reading {
+    // SAFETY: `message` is valid for its length; no `requires`.
+    unsafe { tushalets_read_reply(message.as_ptr(), message.len()) }
+}
+
+/// The name at a position of a readdir reply. The first position is the two cells behind the result, the others are in
+/// the answers. A position that was made up is harmless, but its name may be no text.
+#[inline]
+pub fn next_name(message: &[u8], at: usize, left: u32) -> Name {
+    // SAFETY: `message` is valid for its length; no `requires`, so every position is allowed.
+    unsafe { tushalets_next_name(message.as_ptr(), message.len(), at, left) }
+}
+
+/// Answers a request that needs no file system, or hands it on.
+#[inline]
+pub fn front(message: &[u8], out: &mut [u8]) -> Fronted {
+    // SAFETY: both are valid for their lengths; `out` is `&mut` and so overlaps nothing; no `requires`.
+    unsafe { tushalets_front(message.as_ptr(), message.len(), out.as_mut_ptr(), out.len()) }
+}
+
+/// Stores the listing of a request, also of one that is refused.
+#[inline]
+pub fn list_request(message: &[u8], out: &mut [u8]) -> Written {
+    // SAFETY: both are valid for their lengths; `out` is `&mut` and so overlaps nothing; no `requires`.
+    unsafe { tushalets_list_request(message.as_ptr(), message.len(), out.as_mut_ptr(), out.len()) }
+}
+
+/// Writes a known request. `numbers` are its number fields in the order of document 01's table, each in the low bits of
+/// its word; `first` and `second` are its texts or data. What a type does not have is not looked at.
+#[inline]
+pub fn write_request(
+    id: u32,
+    type_number: u8,
+    numbers: &[u64; 5],
+    first: &[u8],
+    second: &[u8],
+    out: &mut [u8],
+) -> Written {
+    let (first, first_len) = (first.as_ptr(), first.len());
+    let (second, second_len) = (second.as_ptr(), second.len());
+    let (out, out_len) = (out.as_mut_ptr(), out.len());
+    // SAFETY: all are valid for their lengths; `out` is `&mut` and so overlaps nothing; no `requires`.
+    unsafe { tushalets_write_request(id, type_number, numbers, first, first_len, second, second_len, out, out_len) }
+}
+
+/// Writes a request of a type that no method has.
+#[inline]
+pub fn write_unknown_request(id: u32, type_number: u8, out: &mut [u8]) -> Written {
+    // SAFETY: `out` is valid for its length and `&mut`; no `requires`.
+    unsafe { tushalets_write_unknown_request(id, type_number, out.as_mut_ptr(), out.len()) }
+}
+
+/// Writes a success. `numbers` are the number fields behind the result, as for a request; `run` is its text or data.
+/// The names of a readdir reply are `run`, one behind the other, and `lengths`. A getcreds reply leaves `result` aside.
+#[inline]
+pub fn write_reply(
+    id: u32,
+    type_number: u8,
+    result: i32,
+    numbers: &[u64; 14],
+    run: &[u8],
+    lengths: &[u32],
+    out: &mut [u8],
+) -> Written {
+    let (run, run_len) = (run.as_ptr(), run.len());
+    let (lengths, lengths_len) = (lengths.as_ptr(), lengths.len());
+    let (out, out_len) = (out.as_mut_ptr(), out.len());
+    // SAFETY: all are valid for their lengths; `out` is `&mut` and so overlaps nothing; no `requires`.
+    unsafe { tushalets_write_reply(id, type_number, result, numbers, run, run_len, lengths, lengths_len, out, out_len) }
+}
+
+/// Writes a failure.
+#[inline]
+pub fn write_failure(id: u32, type_number: u8, code: i32, out: &mut [u8]) -> Written {
+    // SAFETY: `out` is valid for its length and `&mut`; no `requires`.
+    unsafe { tushalets_write_failure(id, type_number, code, out.as_mut_ptr(), out.len()) }
+}
+
+/// Writes the unknown response.
+#[inline]
+pub fn write_unknown_response(id: u32, out: &mut [u8]) -> Written {
+    // SAFETY: `out` is valid for its length and `&mut`; no `requires`.
+    unsafe { tushalets_write_unknown_response(id, out.as_mut_ptr(), out.len()) }
+}
+
+/// A message that a reader accepted, and its reading. Both are private and only `request` and `reply` make one, so they
+/// belong together, and no cell that is asked for can give a text that is none.
+#[derive(Clone, Copy)]
+pub(crate) struct Accepted<'a> {
+    message: &'a [u8],
+    reading: Reading,
+}
+
+impl<'a> Accepted<'a> {
+    /// A request, read.
+    #[inline]
+    pub(crate) fn request(message: &'a [u8]) -> Result<Self, Refusal> {
+        Accepted { message, reading: read_request(message) }.unless_refused()
+    }
+
+    /// A reply, read.
+    #[inline]
+    pub(crate) fn reply(message: &'a [u8]) -> Result<Self, Refusal> {
+        Accepted { message, reading: read_reply(message) }.unless_refused()
+    }
+
+    #[inline]
+    fn unless_refused(self) -> Result<Self, Refusal> {
+        match self.reading.shape {
+            shapes::REFUSED => Err(Refusal { number: self.reading.number as u8, place: self.reading.place }),
+            _ => Ok(self),
+        }
+    }
+
+    #[inline]
+    pub(crate) fn shape(&self) -> u32 {
+        self.reading.shape
+    }
+
+    #[inline]
+    pub(crate) fn id(&self) -> u32 {
+        self.reading.id
+    }
+
+    #[inline]
+    pub(crate) fn type_number(&self) -> u8 {
+        self.reading.type_number as u8
+    }
+
+    #[inline]
+    pub(crate) fn known(&self) -> usize {
+        self.reading.known
+    }
+
+    /// The number in a cell.
+    #[inline]
+    pub(crate) fn number(&self, cell: usize) -> u64 {
+        self.reading.fields[cell]
+    }
+
+    /// The part of the message that two cells show.
+    #[inline]
+    pub(crate) fn data(&self, cell: usize) -> &'a [u8] {
+        part(self.message, self.number(cell) as usize, self.number(cell + 1) as usize)
+    }
+
+    /// The text that two cells show; empty where a message of this shape and type has no text there.
+    #[inline]
+    pub(crate) fn text(&self, cell: usize) -> &'a str {
+        if !has_text(self.reading.shape, self.type_number(), cell) {
+            return "";
+        }
+        // SAFETY: a reader accepted the message, and by document 01's table these cells show a string of it. By the law
+        // `reading-sound` such a part is well-formed.
+        unsafe { text_of(self.data(cell)) }
+    }
+
+    /// The names of a readdir reply; none of any other message.
+    #[inline]
+    pub(crate) fn names(&self) -> NamePosition<'a> {
+        let (at, left) = match (self.reading.shape, self.type_number()) {
+            (shapes::SUCCESS, types::READDIR_REPLY) => (self.number(1) as usize, self.number(2) as u32),
+            _ => (0, 0),
+        };
+        NamePosition { message: self.message, at, left }
+    }
+}
+
+/// A position among the names of an accepted readdir reply. Only [`Accepted::names`] makes one, and only steps move it.
+#[derive(Clone, Copy)]
+pub(crate) struct NamePosition<'a> {
+    message: &'a [u8],
+    at: usize,
+    left: u32,
+}
+
+impl<'a> NamePosition<'a> {
+    /// How many names are left.
+    #[inline]
+    pub(crate) fn left(&self) -> usize {
+        self.left as usize
+    }
+
+    /// The name here, and the position behind it. After the last name there is none and the position stays.
+    #[inline]
+    pub(crate) fn step(&mut self) -> Option<&'a str> {
+        let name = next_name(self.message, self.at, self.left);
+        if name.found == 0 {
+            return None;
+        }
+        (self.at, self.left) = (name.at, name.left);
+        // SAFETY: the position was reached by steps from the first one of an accepted reply. By the law `names-sound`
+        // each name on that way is well-formed.
+        Some(unsafe { text_of(part(self.message, name.start, name.len)) })
+    }
+}
+
+/// Whether an accepted message of this shape and type shows a text from this cell on, by document 01's table.
+#[inline]
+const fn has_text(shape: u32, type_number: u8, cell: usize) -> bool {
+    match (shape, cell) {
+        (shapes::KNOWN, 0) => !matches!(type_number, types::WRITE | types::GETCREDS),
+        (shapes::KNOWN, 2) => matches!(type_number, types::SYMLINK | types::LINK | types::RENAME),
+        (shapes::SUCCESS, 0) => matches!(type_number, types::GETCREDS_REPLY),
+        (shapes::SUCCESS, 1) => matches!(type_number, types::READLINK_REPLY),
+        _ => false,
+    }
+}
+
+/// A part of the message. By the laws `reading-sound` and `names-sound` it lies inside, so the index never fails.
+#[inline]
+fn part(message: &[u8], start: usize, len: usize) -> &[u8] {
+    &message[start..][..len]
+}
+
+/// Well-formed bytes as text.
+///
+/// # Safety
+///
+/// The bytes are well-formed by document 01's list of ranges, which is RFC 3629's and all that `str` asks for.
+#[inline]
+unsafe fn text_of(bytes: &[u8]) -> &str {
+    debug_assert!(core::str::from_utf8(bytes).is_ok());
+    // SAFETY: the caller promises it.
+    unsafe { core::str::from_utf8_unchecked(bytes) }
+}
+
+#[cfg(test)]
+mod tests {
+    use super::*;
+
+    /// Data that is no text, in a request and in a reply.
+    const WRITE_REQUEST: [u8; 26] =
+        [0, 0, 0, 1, types::WRITE, 0, 0, 0, 1, 0x80, 0, 0, 0, 0, 0, 0, 0, 0, 0, 0, 0, 0, 0, 0, 0, 0];
+    const READ_REPLY: [u8; 14] = [0, 0, 0, 1, types::READ_REPLY, 0, 0, 0, 1, 0, 0, 0, 1, 0x80];
+
+    /// A readdir reply, and a failure of readdir with a name behind its result.
+    const READDIR_REPLY: [u8; 18] = [0, 0, 0, 1, types::READDIR_REPLY, 0, 0, 0, 0, 0, 0, 0, 1, 0, 0, 0, 1, b'a'];
+    const READDIR_FAILURE: [u8; 18] = {
+        let mut message = READDIR_REPLY;
+        message[5] = 0xff;
+        message
+    };
+
+    fn request(message: &[u8]) -> Accepted<'_> {
+        Accepted::request(message).expect("a request")
+    }
+
+    fn reply(message: &[u8]) -> Accepted<'_> {
+        Accepted::reply(message).expect("a reply")
+    }
+
+    #[test]
+    fn cells_that_show_no_text_give_none() {
+        for accepted in [request(&WRITE_REQUEST), reply(&READ_REPLY), reply(&READDIR_FAILURE)] {
+            for cell in 0..=accepted.reading.fields.len() {
+                assert_eq!(accepted.text(cell), "");
+            }
+        }
+        assert_eq!(request(&WRITE_REQUEST).data(0), [0x80]);
+        assert_eq!(reply(&READ_REPLY).data(1), [0x80]);
+    }
+
+    #[test]
+    fn only_a_success_of_readdir_has_names() {
+        assert_eq!(reply(&READDIR_REPLY).names().step(), Some("a"));
+        // A readdir reply is also an unknown request.
+        for accepted in [request(&WRITE_REQUEST), request(&READDIR_REPLY), reply(&READ_REPLY), reply(&READDIR_FAILURE)]
+        {
+            assert_eq!((accepted.names().left(), accepted.names().step()), (0, None));
+        }
+    }
+}

@@ -1,0 +1,49 @@
+use crate::numbers::refusals;
+use core::error::Error;
+use core::fmt;
+
+/// Why a message was not read or not written: document 01's number of refusal, and its place in the message.
+///
+/// ```
+/// use tushalets::numbers::refusals;
+///
+/// // A getattr request that declares a path of 2 bytes and has 1 of them.
+/// let message = [0, 0, 0, 1, 0x02, 0, 0, 0, 2, b'/'];
+/// let refusal = tushalets::read_request(&message).unwrap_err();
+/// assert_eq!((refusal.number, refusal.place), (refusals::TRUNCATED, 9));
+/// assert_eq!(refusal.name(), "truncated");
+/// assert_eq!(refusal.to_string(), "refused 4 at 9: truncated");
+/// ```
+#[derive(Clone, Copy, Debug, PartialEq, Eq, Hash)]
+pub struct Refusal {
+    /// 1 to 9; [`refusals`] has their names.
+    pub number: u8,
+    /// Where in the message; 0 of a writer.
+    pub place: usize,
+}
+
+impl Refusal {
+    /// What the number means, in a few words.
+    pub const fn name(&self) -> &'static str {
+        match self.number {
+            refusals::TRUNCATED_HEADER => "truncated header",
+            refusals::OVERSIZE => "oversize",
+            refusals::UNEXPECTED_TYPE => "unexpected type",
+            refusals::TRUNCATED => "truncated",
+            refusals::MALFORMED_TEXT => "malformed text",
+            refusals::DATA_LENGTH_MISMATCH => "data length mismatch",
+            refusals::BUFFER_TOO_SMALL => "buffer too small",
+            refusals::RESULT_SIGN => "result sign",
+            refusals::LENGTHS_MISMATCH => "lengths mismatch",
+            _ => "no refusal",
+        }
+    }
+}
+
+impl fmt::Display for Refusal {
+    fn fmt(&self, f: &mut fmt::Formatter<'_>) -> fmt::Result {
+        write!(f, "refused {} at {}: {}", self.number, self.place, self.name())
+    }
+}
+
+impl Error for Refusal {}
