@@ -5,7 +5,7 @@
 #include "tushalets.h"
 
 /* Cells of the fields that are shown here (the table in tushalets.h). */
-enum { RESULT = 0, ACCESS_PATH = 0, ACCESS_MODE = 2, READDIR_ITEMS = 1 };
+enum { RESULT = 0, ACCESS_PATH = 0, ACCESS_MODE = 2, READDIR_ITEMS = 1, GETCREDS_CREDS = 0 };
 
 /* Bytes of an unknown response, of a failure, and of a read reply with one byte of data. */
 enum { HEADER_SIZE = 5, FAILURE_SIZE = 9, READ_REPLY_SIZE = 14 };
@@ -84,38 +84,68 @@ static void show_names(const uint8_t *message, size_t len, const tushalets_readi
     }
 }
 
+static int is_success_of(const tushalets_reading *reply, uint32_t method)
+{
+    return reply->shape == TUSHALETS_SHAPE_SUCCESS && reply->type == method + TUSHALETS_REPLY;
+}
+
+/* What a reply is, and its result. The unknown response and a getcreds reply have none. */
+static void print_outcome(const tushalets_reading *reply)
+{
+    if (reply->shape == TUSHALETS_SHAPE_UNKNOWN) {
+        printf(" unknown response");
+        return;
+    }
+    printf(" %s", reply->shape == TUSHALETS_SHAPE_FAILURE ? "failure" : "success");
+    if (!is_success_of(reply, TUSHALETS_GETCREDS)) printf(" %d", (int)(int32_t)(uint32_t)reply->fields[RESULT]);
+}
+
 static void show_reply(const uint8_t *message, size_t len)
 {
     tushalets_reading reply = tushalets_read_reply(message, len);
-    const char *shape = reply.shape == TUSHALETS_SHAPE_FAILURE ? "failure" : "success";
     if (reply.shape == TUSHALETS_SHAPE_REFUSED) {
         printf("refused %u at %zu\n", reply.number, reply.place);
         return;
     }
-    printf("reply %02x id %u %s %d", reply.type, reply.id, shape, (int)(int32_t)(uint32_t)reply.fields[RESULT]);
+    printf("reply %02x id %u", reply.type, reply.id);
+    print_outcome(&reply);
     printf(" known %zu of %zu\n", reply.known, len);
-    if (reply.shape == TUSHALETS_SHAPE_SUCCESS && reply.type == TUSHALETS_READDIR + TUSHALETS_REPLY) {
-        show_names(message, len, &reply);
+    if (is_success_of(&reply, TUSHALETS_READDIR)) show_names(message, len, &reply);
+    if (is_success_of(&reply, TUSHALETS_GETCREDS)) {
+        printf("creds ");
+        print_text(message + reply.fields[GETCREDS_CREDS], reply.fields[GETCREDS_CREDS + 1]);
+        printf("\n");
     }
+}
+
+static void show_written(const uint8_t *out, size_t len)
+{
+    printf("written");
+    print_bytes(out, len);
+    show_reply(out, len);
 }
 
 static void show_replies(void)
 {
     static const uint8_t names[] = {'.', '.', '.', 'h', 'e', 'l', 'l', 'o'};
     static const uint32_t lengths[] = {1, 2, 5};
+    static const uint8_t creds[] = {'u', 's', 'e', 'r'};
     uint8_t out[ROOM];
     tushalets_written written;
 
     written = tushalets_write_failure(7, TUSHALETS_ACCESS + TUSHALETS_REPLY, ENOENT_RESULT, out, sizeof out);
-    printf("written");
-    print_bytes(out, written.len);
-    show_reply(out, written.len);
+    show_written(out, written.len);
 
     written = tushalets_write_reply(2, TUSHALETS_READDIR + TUSHALETS_REPLY, 0, no_numbers, names, sizeof names,
                                     lengths, sizeof lengths / sizeof lengths[0], out, sizeof out);
-    printf("written");
-    print_bytes(out, written.len);
-    show_reply(out, written.len);
+    show_written(out, written.len);
+
+    written = tushalets_write_reply(6, TUSHALETS_GETCREDS + TUSHALETS_REPLY, 0, no_numbers, creds, sizeof creds,
+                                    no_lengths, 0, out, sizeof out);
+    show_written(out, written.len);
+
+    written = tushalets_write_unknown_response(0x23, out, sizeof out);
+    show_written(out, written.len);
 }
 
 /* A read reply with one byte of data that claims another number of bytes, or has too little room. */

@@ -13,7 +13,7 @@ namespace {
 
 // Cells of the fields that are shown here (the table in tushalets.h).
 constexpr std::size_t result = 0, rename_old_path = 0, rename_new_path = 2, rename_flags = 4;
-constexpr std::size_t open_path = 0, open_flags = 2, read_data = 1;
+constexpr std::size_t open_path = 0, open_flags = 2, unlink_path = 0, read_data = 1;
 
 // A type that no method has, and the bytes of a getattr request with a path of two bytes.
 constexpr std::uint8_t no_method = 0x42;
@@ -62,6 +62,15 @@ void show_open() {
     const auto request = tushalets::reading::request(stored(out, written.len));
     std::cout << "request open id " << request.id() << ' ' << request.text(open_path) << " flags "
               << request.signed_number(open_flags) << '\n';
+}
+
+// A zero byte in a literal is part of the path.
+void show_zero_byte() {
+    room out;
+    const auto written = tushalets::write_request(8, TUSHALETS_UNLINK, {}, "/a\0b", {}, out);
+    const auto request = tushalets::reading::request(stored(out, written.len));
+    std::cout << "request unlink id " << request.id() << " path";
+    print_bytes(request.data(unlink_path));
 }
 
 void show_unknown() {
@@ -116,6 +125,7 @@ int main() {
     std::cout << "version " << tushalets_version() << '\n';
     show_rename();
     show_open();
+    show_zero_byte();
     show_unknown();
     show_read_reply();
     show_readdir_reply();

@@ -84,53 +84,56 @@ enum {
     TUSHALETS_ACT_REFUSED = 2
 };
 
-/* Cells of a reading: its fields in the order of the page, and 0 behind them.
+/* Cells of a reading: its fields in the order of the page, and 0 behind them. Cells and positions of names belong to
+ * the bytes that were read: they are good with the same message, at the same length and unchanged.
  *   u8, u32, u64     one cell
  *   i8, i32          one cell with the 32 bits of the number: (int32_t)(uint32_t)fields[n]
  *   bool             one cell, 0 or 1
- *   timestamp        two cells: seconds, nsec
+ *   timestamp        two cells: seconds, a u64, and nsec, a u32
  *   string, bytes    two cells: where the bytes begin in the message, and how many they are. A string is well-formed
  *                    UTF-8. No zero byte ends it, and there may be some inside
  *   strings          two cells: the place of the first name, and how many names there are. They are `at` and `left`
  *                    for tushalets_next_name
  *
- *   access request     path 0,1  mode 2 (i8)
- *   getattr request    path 0,1
- *   readlink request   path 0,1
- *   symlink request    target 0,1  linkpath 2,3
- *   link request       old_path 0,1  new_path 2,3
- *   rename request     old_path 0,1  new_path 2,3  flags 4
- *   chmod request      path 0,1  mode 2
- *   chown request      path 0,1  uid 2  gid 3
- *   truncate request   path 0,1  size 2  handle 3
- *   fsync request      path 0,1  is_datasync 2 (bool)  handle 3
- *   open request       path 0,1  flags 2 (i32)
- *   mknod request      path 0,1  mode 2  dev 3
- *   create request     path 0,1  mode 2
- *   release request    path 0,1  handle 2
- *   unlink request     path 0,1
- *   read request       path 0,1  buffer_size 2  offset 3  handle 4
- *   write request      data 0,1  offset 2  handle 3
- *   mkdir request      path 0,1  mode 2
- *   readdir request    path 0,1
- *   rmdir request      path 0,1
- *   statfs request     path 0,1
- *   utimens request    path 0,1  atime 2,3  mtime 4,5  handle 6
+ *   access request     path 0,1 (string)  mode 2 (i8)
+ *   getattr request    path 0,1 (string)
+ *   readlink request   path 0,1 (string)
+ *   symlink request    target 0,1 (string)  linkpath 2,3 (string)
+ *   link request       old_path 0,1 (string)  new_path 2,3 (string)
+ *   rename request     old_path 0,1 (string)  new_path 2,3 (string)  flags 4 (u8)
+ *   chmod request      path 0,1 (string)  mode 2 (u32)
+ *   chown request      path 0,1 (string)  uid 2 (u32)  gid 3 (u32)
+ *   truncate request   path 0,1 (string)  size 2 (u64)  handle 3 (u64)
+ *   fsync request      path 0,1 (string)  is_datasync 2 (bool)  handle 3 (u64)
+ *   open request       path 0,1 (string)  flags 2 (i32)
+ *   mknod request      path 0,1 (string)  mode 2 (u32)  dev 3 (u64)
+ *   create request     path 0,1 (string)  mode 2 (u32)
+ *   release request    path 0,1 (string)  handle 2 (u64)
+ *   unlink request     path 0,1 (string)
+ *   read request       path 0,1 (string)  buffer_size 2 (u32)  offset 3 (u64)  handle 4 (u64)
+ *   write request      data 0,1 (bytes)  offset 2 (u64)  handle 3 (u64)
+ *   mkdir request      path 0,1 (string)  mode 2 (u32)
+ *   readdir request    path 0,1 (string)
+ *   rmdir request      path 0,1 (string)
+ *   statfs request     path 0,1 (string)
+ *   utimens request    path 0,1 (string)  atime 2,3 (timestamp)  mtime 4,5 (timestamp)  handle 6 (u64)
  *   getcreds request   none
  *
- *   getattr reply      result 0 (i32)  inode 1  nlink 2  mode 3  uid 4  gid 5  rdev 6  size 7  blocks 8
- *                      atime 9,10  mtime 11,12  ctime 13,14
- *   readlink reply     result 0 (i32)  resolved 1,2
- *   open reply         result 0 (i32)  handle 1
- *   create reply       result 0 (i32)  handle 1
- *   read reply         result 0 (i32)  data 1,2
- *   readdir reply      result 0 (i32)  items 1,2
- *   statfs reply       result 0 (i32)  bsize 1  frsize 2  blocks 3  bfree 4  bavail 5  files 6  ffree 7  namemax 8
- *   getcreds reply     creds 0,1
+ *   getattr reply      result 0 (i32)  inode 1 (u64)  nlink 2 (u64)  mode 3 (u32)  uid 4 (u32)  gid 5 (u32)
+ *                      rdev 6 (u64)  size 7 (u64)  blocks 8 (u64)
+ *                      atime 9,10 (timestamp)  mtime 11,12 (timestamp)  ctime 13,14 (timestamp)
+ *   readlink reply     result 0 (i32)  resolved 1,2 (string)
+ *   open reply         result 0 (i32)  handle 1 (u64)
+ *   create reply       result 0 (i32)  handle 1 (u64)
+ *   read reply         result 0 (i32)  data 1,2 (bytes)
+ *   readdir reply      result 0 (i32)  items 1,2 (strings)
+ *   statfs reply       result 0 (i32)  bsize 1 (u64)  frsize 2 (u64)  blocks 3 (u64)  bfree 4 (u64)
+ *                      bavail 5 (u64)  files 6 (u64)  ffree 7 (u64)  namemax 8 (u64)
+ *   getcreds reply     creds 0,1 (string)
  *   each other reply   result 0 (i32): access, symlink, link, rename, chmod, chown, truncate, fsync, mknod, release,
  *                      unlink, write, mkdir, rmdir, utimens
- *   failure            result 0 (i32), of every method but getcreds, which has none
- *   unknown            none, request or response */
+ *   failure            result 0 (i32): every method but getcreds, which has none
+ *   unknown            none: request and response */
 
 /* The answer of a reader. A refusal has `number` (1 to 6) and `place`, and all else is 0. An accepted message has all
  * but these two, which are 0. */
@@ -185,12 +188,14 @@ tushalets_reading tushalets_read_request(const uint8_t *message, size_t message_
 tushalets_reading tushalets_read_reply(const uint8_t *message, size_t message_len);
 
 /* The next name of a readdir reply that was read. The first position is cells 1 and 2 of the reading, the others are
- * those of the steps. A position that was made up is harmless: its name lies inside the message, but it may be no
- * text. */
+ * those of the steps, all with the same message. A position that was made up is harmless: its name lies inside the
+ * message, but it may be no text. */
 tushalets_name tushalets_next_name(const uint8_t *message, size_t message_len, size_t at, uint32_t left);
 
-/* The provider's front: answers a damaged or unknown request into `out`, and hands on a known one that is whole.
- * Nine bytes suffice. */
+/* The provider's front: answers a damaged or unknown request into `out`, and hands on a known one that is whole. A
+ * request of more than TUSHALETS_LONGEST bytes is answered like an unknown one, with TUSHALETS_UNKNOWN_RESPONSE. Fewer
+ * than five bytes have no id to answer with; they are refused as TUSHALETS_TRUNCATED_HEADER. Nine bytes of `out`
+ * suffice. */
 tushalets_fronted tushalets_front(const uint8_t *message, size_t message_len, uint8_t *out, size_t out_len);
 
 /* The listing of a request, also of one that is refused: lines of text. TUSHALETS_LONGEST_LISTING bytes suffice. */
@@ -207,15 +212,17 @@ tushalets_written tushalets_write_request(uint32_t id, uint8_t type, const uint6
 /* Writes an unknown request: a type that no method has, five bytes. */
 tushalets_written tushalets_write_unknown_request(uint32_t id, uint8_t type, uint8_t *out, size_t out_len);
 
-/* Writes a success, of getcreds too, which leaves `result` aside. `numbers` are the numbers of its row above behind
- * the result: of a getattr reply, inode to ctime, all 14. `run` is its text or data. The names of a readdir reply are
- * `run`, one behind the other, and `lengths`. What the type does not have is not looked at. */
+/* Writes a success, of getcreds too, which leaves `result` aside. `type` is the reply's, 0x81 to 0x97:
+ * TUSHALETS_READ + TUSHALETS_REPLY, not TUSHALETS_READ. `numbers` are the numbers of its row above behind the result:
+ * of a getattr reply, inode to ctime, all 14. `run` is its text or data. The names of a readdir reply are `run`, one
+ * behind the other, and `lengths`. What the type does not have is not looked at. */
 tushalets_written tushalets_write_reply(uint32_t id, uint8_t type, int32_t result, const uint64_t numbers[14],
                                         const uint8_t *run, size_t run_len,
                                         const uint32_t *lengths, size_t lengths_len,
                                         uint8_t *out, size_t out_len);
 
-/* Writes a failure: nine bytes. `type` is the reply's, of any method but getcreds, and `code` is negative. */
+/* Writes a failure: nine bytes. `type` is the reply's, 0x81 to 0x96, so of any method but getcreds:
+ * TUSHALETS_READ + TUSHALETS_REPLY, not TUSHALETS_READ. `code` is negative. */
 tushalets_written tushalets_write_failure(uint32_t id, uint8_t type, int32_t code, uint8_t *out, size_t out_len);
 
 /* Writes the unknown response: five bytes. */

@@ -47,15 +47,49 @@ using buffer = view<std::uint8_t>;
 // The lengths of the names of a readdir reply.
 using length_view = view<const std::uint32_t>;
 
-// A message, data, or the bytes of a text.
+namespace detail {
+
+// A class that knows its characters and their number, as std::string and std::string_view do.
+template <class T>
+inline constexpr bool is_text = std::is_class_v<T> && std::is_convertible_v<const T &, std::string_view>;
+
+// A pointer to characters.
+template <class T>
+inline constexpr bool is_character_pointer = std::is_pointer_v<T> && std::is_convertible_v<T, const char *>;
+
+// The pointer to the elements.
+template <class T> using data_of = decltype(std::data(std::declval<T &>()));
+
+// A view of elements that outlive it: it is copied as bytes, and where it is constant it gives the same elements. An
+// owner that is constant gives constant ones.
+template <class T, class = void> inline constexpr bool is_borrowed_range = false;
+template <class T>
+inline constexpr bool is_borrowed_range<T, std::enable_if_t<std::is_same_v<data_of<T>, data_of<const T>>>> =
+    std::is_trivially_copyable_v<T>;
+
+} // namespace detail
+
+// A message, data, or the bytes of a text. A zero byte is a byte like another.
 class byte_view : public view<const std::uint8_t> {
   public:
     using view::view;
     constexpr byte_view() noexcept = default;
 
-    // The bytes of a string, a string view or a literal.
-    template <class Text, class = std::enable_if_t<std::is_convertible_v<const Text &, std::string_view>>, class = void>
+    // The bytes of a string or a string view.
+    template <class Text, class = std::enable_if_t<detail::is_text<Text>>>
     byte_view(const Text &text) noexcept : byte_view(of_text(text)) {}
+
+    // The bytes of a literal, without the zero that ends it. A constant array of characters is taken as a literal, and
+    // so without its last element.
+    template <std::size_t N>
+    byte_view(const char (&literal)[N]) noexcept : byte_view(of_text({literal, N - 1})) {}
+
+    // Behind a pointer, or in an array that is filled in part, the number of characters is not known: at the first zero
+    // byte a message may go on, and there may be none. Say how many there are: std::string_view(buffer, len).
+    template <std::size_t N> byte_view(char (&)[N]) = delete;
+    template <std::size_t N> byte_view(char (&&)[N]) = delete;
+    template <class Pointer, std::enable_if_t<detail::is_character_pointer<Pointer>, int> = 0>
+    byte_view(const Pointer &) = delete;
 
     // The same bytes as characters.
     std::string_view text() const noexcept { return {reinterpret_cast<const char *>(data()), size()}; }
@@ -153,6 +187,12 @@ class reading {
         return {message, tushalets_read_reply(message.data(), message.size())};
     }
 
+    // A temporary that owns the message would be gone while the reading still points into it. Keep it in a variable.
+    template <class Owner, class = std::enable_if_t<!detail::is_borrowed_range<Owner>>>
+    static reading request(const Owner &&) = delete;
+    template <class Owner, class = std::enable_if_t<!detail::is_borrowed_range<Owner>>>
+    static reading reply(const Owner &&) = delete;
+
     // Whether the message was accepted. Else it has a refusal's number and place.
     explicit operator bool() const noexcept { return answer_.shape != TUSHALETS_SHAPE_REFUSED; }
     std::uint32_t refusal() const noexcept { return answer_.number; }
@@ -174,8 +214,12 @@ class reading {
         return static_cast<std::int32_t>(static_cast<std::uint32_t>(number(cell)));
     }
 
-    // The string or the data whose start is in this cell. A string is well-formed UTF-8.
+    // The text whose start is in this cell. It is memory-safe for every cell; it is text, which is well-formed UTF-8,
+    // where the table has a string.
     std::string_view text(std::size_t cell) const noexcept { return data(cell).text(); }
+
+    // The bytes whose start is in this cell. It is memory-safe for every cell; they are a field's where the table has a
+    // string or bytes.
     byte_view data(std::size_t cell) const noexcept { return message_.part(number(cell), number(cell + 1)); }
 
     // The names of a readdir reply; none of any other message.

@@ -84,7 +84,7 @@ pub fn compare_message(message: &[u8], random: &mut Random) {
 /// A reply that was read, written again; then with less room, with another result and with other lengths.
 fn write_again(id: u32, reply: Reply<'_, Vec<&str>>, room: usize, random: &mut Random) {
     let (mut names, mut lengths) = (Vec::new(), Vec::new());
-    let reply = with_names(reply, |list| {
+    let reply = reply.map_names(|list| {
         names = list.concat().into_bytes();
         lengths = list.iter().map(|name| name.len() as u32).collect();
         NameRun { names: &names, lengths: &lengths }
@@ -129,42 +129,5 @@ fn same_stores<T: PartialEq + std::fmt::Debug>(
 /// A reply with its names in a list.
 fn collected<'a, N: Iterator<Item = &'a str>>(received: Received<Reply<'a, N>>) -> Received<Reply<'a, Vec<&'a str>>> {
     let Received { id, known, body } = received;
-    Received { id, known, body: with_names(body, N::collect) }
-}
-
-/// The same reply with its names in another form.
-fn with_names<'a, N, M>(reply: Reply<'a, N>, form: impl FnOnce(N) -> M) -> Reply<'a, M> {
-    match reply {
-        Reply::Success { result, success } => Reply::Success { result, success: success_with_names(success, form) },
-        Reply::Failure { type_number, code } => Reply::Failure { type_number, code },
-        Reply::Credentials { creds } => Reply::Credentials { creds },
-        Reply::UnknownResponse => Reply::UnknownResponse,
-    }
-}
-
-fn success_with_names<'a, N, M>(success: Success<'a, N>, form: impl FnOnce(N) -> M) -> Success<'a, M> {
-    match success {
-        Success::Readdir(names) => Success::Readdir(form(names)),
-        Success::Getattr(attributes) => Success::Getattr(attributes),
-        Success::Statfs(statistics) => Success::Statfs(statistics),
-        Success::Readlink { resolved } => Success::Readlink { resolved },
-        Success::Read { data } => Success::Read { data },
-        Success::Open { handle } => Success::Open { handle },
-        Success::Create { handle } => Success::Create { handle },
-        Success::Access => Success::Access,
-        Success::Symlink => Success::Symlink,
-        Success::Link => Success::Link,
-        Success::Rename => Success::Rename,
-        Success::Chmod => Success::Chmod,
-        Success::Chown => Success::Chown,
-        Success::Truncate => Success::Truncate,
-        Success::Fsync => Success::Fsync,
-        Success::Mknod => Success::Mknod,
-        Success::Release => Success::Release,
-        Success::Unlink => Success::Unlink,
-        Success::Write => Success::Write,
-        Success::Mkdir => Success::Mkdir,
-        Success::Rmdir => Success::Rmdir,
-        Success::Utimens => Success::Utimens,
-    }
+    Received { id, known, body: body.map_names(N::collect) }
 }

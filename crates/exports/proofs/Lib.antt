@@ -2,3 +2,4 @@
 pub mod GivenAgain
 pub mod SoundHolds
 pub mod Telling
+pub mod WrittenAgain

@@ -1,26 +1,30 @@
 -- Laws for hosts. Every part of an accepted message lies inside it, and its texts and names are well-formed: what a host needs to show
 -- them as text without another check. Of both sides, once over the layout. Assumes nothing.
-use mathlib.Core.Path.{_≡_, refl, sym, ap, _∙_}
+use mathlib.Core.Path.{_≡_, refl, sym, ap, _∙_, subst}
 use mathlib.Core.Bool.{Bool, true, false, cond}
 use mathlib.Core.List.{List, [], _∷_, _++_}
-use Prim.Native.Nat.{ℕ, zero, suc, _≤_}
+use Prim.Native.Nat.{ℕ, zero, suc, _+_, _≤_}
 use native.Mathlib.Omega.{arith}
 use lib.Dec.{eqb, leb}
-use lib.IntN.{ℤ}
+use lib.IntN.{ℤ, pos}
 use lib.ListN.{length, take, getD}
 use borrow.Author.Tests.{leb-true}
+use Rattle.number.specs.BigEndian.{Found as Number, whole, truncated as too-few, numberAt}
 use Rattle.text.specs.Utf8.{wellFormed}
-use Rattle.method.specs.Methods.{Found, found, unknown as no-method, ofRequest, ofReply}
+use Rattle.method.specs.declared.Method.the-variants.{Readdir}
+use Rattle.method.specs.Methods.{replyNumber, Found, found, unknown as no-method, ofRequest, ofReply}
 use Rattle.method.proofs.Table.{request-passes, reply-passes}
 use Rattle.layout.specs.Kinds.{Num, u8, i8, u32, i32, u64, bool, Kind, num, string, bytes, strings, kinds}
 use Rattle.layout.specs.Table.{Side, request, reply, unknownResponse, Plan, unexpected, header, asked, plain, led, planOf, row, requestPlan, replyPlan, plan}
-use Rattle.layout.specs.Values.{Part, Value, signed, runs, runsOf}
-use Rattle.layout.specs.Reading.{Shape, unknown, known, failure, success, anyBytes, valueOf, accepted, read}
+use Rattle.layout.specs.Values.{Part, part, Value, signed, runs, runsOf}
+use Rattle.layout.specs.Reading.{Outcome, got, fail, followed, numOutcome, numAt, runAt, anyBytes, bytesAt, valueOf, Shape, unknown, known, failure, success, Answer, refused, accepted, read}
 use Rattle.layout.specs.Pieces.{kindsOf}
-use Rattle.layout.specs.Names.{namesAmong, Position, position, firstName, opened, Step, name, ended, step, steps}
+use Rattle.layout.specs.Names.{namesAmong, namesOf, Position, position, firstName, opened, Step, name, ended, stepped, stepBy, step, steps}
+use Rattle.layout.specs.Limits.{truncated}
+use Rattle.layout.proofs.Tests.{apart}
 use Rattle.layout.proofs.Trace.{SizedHere, sized-here, StringsHere, no-string, a-string-more, FieldHere, a-num, a-string, a-bytes, a-strings, FieldsHere, no-field, a-field-more, BodyHere, header-only, an-asked, a-plain, a-failure, a-success, message-traced}
 use Rattle.layout.proofs.Iterating.{ended-stays, opened-steps}
-use Rattle.exports.specs.Shown.{cells, allCells, padded, cellCount, readingOf}
+use Rattle.exports.specs.Shown.{cells, allCells, padded, cellCount, shapeNumber, readingOf}
 use Rattle.exports.specs.Sound.{Inside, Text, Sound, no-more, a-number, a-text, some-bytes, some-names, namesMet, AllText, no-text, a-text-more}
 
 -- ---- the cells of all fields
@@ -175,10 +179,74 @@ module _ {m : List ℕ} where
   body-texts (a-success h e no-field c) = no-text
   body-texts (a-success h e (a-field-more g t) c) = value-texts g
 
--- the names of a reply, met from the position that its cells are: all of them in their order, and each is text
-pub names-sound : (m : List ℕ) {i t k : ℕ} {z : ℤ} {xs : List Part} → read reply m ≡ accepted success i t (signed z ∷ runs xs ∷ []) k → (n : ℕ)
-    → (namesMet n m (getD (readingOf (read reply m) .fields) 1 0) (getD (readingOf (read reply m) .fields) 2 0) ≡ take n xs) × AllText m xs
+-- a readdir reply that succeeds shows its result and its names
+record Named (vs : List (Value Part)) : Type 0 where
+  result : ℤ
+  names : List Part
+  is : vs ≡ signed result ∷ runs names ∷ []
+
+named-here : {m : List ℕ} {c : Bool} {p q : ℕ} {vs : List (Value Part)} → BodyHere m (led c (strings ∷ [])) p success vs q → Named vs
+named-here (a-success {r = r} h e (a-field-more (a-strings {xs = xs} g s) no-field) c) = record { result = pos r; names = xs; is = refl }
+
+readdir-here : {m : List ℕ} {t p q : ℕ} {vs : List (Value Part)} → t ≡ replyNumber Readdir → BodyHere m (plan reply t) p success vs q → Named vs
+unfolding plan ofReply
+readdir-here {m} {t} {p} {q} {vs} b h = named-here (subst (λ (u : ℕ). BodyHere m (plan reply u) p success vs q) b h)
+
+met-all : (m : List ℕ) {i t k : ℕ} {z : ℤ} {xs : List Part} → read reply m ≡ accepted success i t (signed z ∷ runs xs ∷ []) k → (n : ℕ)
+    → namesMet n m firstName (length xs) ≡ take n xs
 unfolding opened
-names-sound m {xs = xs} e n =
-    let met : namesMet n m firstName (length xs) ≡ take n xs = met-steps n m firstName (length xs) ∙ (rw e at (opened-steps n m)) in
-    (rw e met, body-texts (message-traced e .rest))
+met-all m {xs = xs} e n = met-steps n m firstName (length xs) ∙ (rw e at (opened-steps n m))
+
+-- steps from the cells that are the position of its first name, by shape and type as a host sees them: all names in their order, and each
+-- is text
+pub names-sound : (m : List ℕ) → readingOf (read reply m) .shape ≡ shapeNumber success → readingOf (read reply m) .«type_number» ≡ replyNumber Readdir → (n : ℕ)
+    → (namesMet n m (getD (readingOf (read reply m) .fields) 1 0) (getD (readingOf (read reply m) .fields) 2 0) ≡ take n (namesOf (read reply m)))
+    × AllText m (namesOf (read reply m))
+names-sound m a b n = go (read reply m) refl a b
+  where
+    go : (r : Answer) → read reply m ≡ r → readingOf r .shape ≡ shapeNumber success → readingOf r .«type_number» ≡ replyNumber Readdir
+        → (namesMet n m (getD (readingOf r .fields) 1 0) (getD (readingOf r .fields) 2 0) ≡ take n (namesOf r)) × AllText m (namesOf r)
+    go (refused c p) e f g = let none : ⊥ = omega arith in absurd none
+    go (accepted unknown i t vs k) e f g = let none : ⊥ = omega arith in absurd none
+    go (accepted known i t vs k) e f g = let none : ⊥ = omega arith in absurd none
+    go (accepted failure i t vs k) e f g = let none : ⊥ = omega arith in absurd none
+    go (accepted success i t vs k) e f g =
+        let v : Named vs = readdir-here g (message-traced e .rest) in
+        let met : namesMet n m firstName (length (v .names)) ≡ take n (v .names) = met-all m (rw (v .is) at e) n in
+        (rw (v .is) met, body-texts (message-traced e .rest))
+
+-- ---- a step from any position
+
+-- the part that a run was read as
+run-inside : (m : List ℕ) (n p : ℕ) {x : Part} {q : ℕ} → runAt anyBytes n m p ≡ got x q → Inside m (x .start) (x .size)
+unfolding runAt
+run-inside m n p {x} {q} e = go (leb (p + n) (length m)) refl e
+  where
+    go : (b : Bool) → leb (p + n) (length m) ≡ b → cond b (got (part p n) (p + n)) (fail truncated p) ≡ got x q → Inside m (x .start) (x .size)
+    go true f g =
+        let same : part p n ≡ x = cc in
+        subst (λ (y : Part). Inside m (y .start) (y .size)) same (record { fits = leb-true (p + n) (length m) f })
+    go false f g = let z : _≡_ {A = ℕ} 0 1 = cc in apart z
+
+bytes-inside : (m : List ℕ) (p : ℕ) {x : Part} {q : ℕ} → bytesAt m p ≡ got x q → Inside m (x .start) (x .size)
+unfolding numAt
+bytes-inside m p {x} {q} e = go (numberAt 4 m p) e
+  where
+    go : (f : Number) → followed (numOutcome 4 p f) (λ n r. runAt anyBytes n m r) ≡ got x q → Inside m (x .start) (x .size)
+    go (whole n) g = run-inside m n (p + 4) g
+    go too-few g = let z : _≡_ {A = ℕ} 0 1 = cc in apart z
+
+-- a name that was given lies inside the message, also from a position that was made up
+pub step-inside : (m : List ℕ) (w : Position) {x : Part} {v : Position} → step m w ≡ name x v → Inside m (x .start) (x .size)
+unfolding step
+step-inside m w {x} {v} e = go (w .left) e
+  where
+    given : (l : ℕ) (o : Outcome Part) → bytesAt m (w .at) ≡ o → stepped (position (w .at) (suc l)) l o ≡ name x v → Inside m (x .start) (x .size)
+    given l (got y q) f g =
+        let same : y ≡ x = cc in
+        subst (λ (y : Part). Inside m (y .start) (y .size)) same (bytes-inside m (w .at) f)
+    given l (fail c p) f g = let z : _≡_ {A = ℕ} 0 1 = cc in apart z
+
+    go : (l : ℕ) → stepBy m (w .at) l ≡ name x v → Inside m (x .start) (x .size)
+    go zero g = let z : _≡_ {A = ℕ} 0 1 = cc in apart z
+    go (suc l) g = given l (bytesAt m (w .at)) refl g

@@ -1,4 +1,4 @@
--- What a host is told: a shape by its number, a length, and by a writer that meets its promise what that promise says. Assumes nothing.
+-- What a host is told: a shape and an act by their numbers, a length, and by a writer that meets its promise what that promise says. Assumes nothing.
 use mathlib.Core.Path.{_≡_, refl, ap, _∙_}
 use mathlib.Core.Bool.{false, cond}
 use mathlib.Core.List.{List}
@@ -6,10 +6,12 @@ use Prim.Native.Nat.{ℕ}
 use lib.Dec.{eqb}
 use Rattle.layout.specs.Reading.{Shape, unknown, known, failure, success}
 use Rattle.layout.specs.Writing.{Told, stored, refused, lengthOf, Written as Outcome}
+use Rattle.layout.specs.Front.{Act, handed-on, stored as act-stored, refused as act-refused}
 use Rattle.writer.specs.declared.Written.{Written}
 use Rattle.writer.specs.Writers.{toldOf, Wrote}
 use Rattle.exports.specs.declared.TushaletsWritten.{TushaletsWritten}
-use Rattle.exports.specs.Shown.{shapeNumber, writtenOf}
+use Rattle.exports.specs.declared.TushaletsFronted.{TushaletsFronted}
+use Rattle.exports.specs.Shown.{shapeNumber, writtenOf, frontedOf}
 
 -- the shape that a host takes a number for
 abbrev shapeBy : ℕ → Shape
@@ -28,6 +30,15 @@ shape-accepted unknown = refl
 shape-accepted known = refl
 shape-accepted failure = refl
 shape-accepted success = refl
+
+-- the act that a host takes the numbers of the front for is the one that it did
+abbrev actBy : TushaletsFronted → Act
+actBy x = cond (eqb (x .act) 0) handed-on (cond (eqb (x .act) 1) (act-stored (x .len)) (act-refused (x .number) (x .place)))
+
+pub act-told : (a : Act) → actBy (frontedOf a) ≡ a
+act-told handed-on = refl
+act-told (act-stored n) = refl
+act-told (act-refused n p) = refl
 
 -- a refused writer reports length 0
 pub length-told : (t : Told) → writtenOf t .len ≡ lengthOf t

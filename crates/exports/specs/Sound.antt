@@ -20,8 +20,8 @@ pub record Text (m : List ℕ) (p n : ℕ) : Type 0 where
   pub fits : p + n ≤ length m
   pub good : wellFormed (bytesIn m (part p n)) ≡ true
 
--- the cells of fields of these kinds: a number has one; a text or data has two, its place and its length; so have names, of which the
--- steps tell. Behind the last field any cells may follow
+-- the cells of fields of these kinds: a number has one; a text or data has two, its place and its length. Names have two as well, of which
+-- nothing is said here, but of the names that they lead to (`namesMet`). Behind the last field any cells may follow
 pub data Sound (m : List ℕ) : List Kind → List ℕ → Type 0 where
   no-more : {cs : List ℕ} → Sound m [] cs
   a-number : {k : Num} {c : ℕ} {ks : List Kind} {cs : List ℕ} → Sound m ks cs → Sound m (num k ∷ ks) (c ∷ cs)

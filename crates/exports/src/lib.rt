@@ -1,5 +1,5 @@
 // What a host in C, C++ or Rust is answered: structs of numbers, returned by value. The functions stand in the crates
-// exports_reading, exports_writing, exports_front, exports_listing and exports_text.
+// exports_reading, exports_requests, exports_replies, exports_front, exports_listing and exports_text.
 ghost use mathlib.Core.Path.{_≡_};
 ghost use Rattle.writer.specs.Writers.{toldOf};
 ghost use Rattle.exports.specs.Shown.{writtenOf};
@@ -7,9 +7,6 @@ use writer::Written;
 
 // The version of all that a host sees: the functions, their arguments, and the cells of an answer. A change of any raises it.
 pub const VERSION: u32 = 1;
-
-// Document 01's number (stray) for a type that no such message has.
-pub const UNEXPECTED_TYPE: u8 = 3;
 
 // The answer of a reader. `shape` is 0 for a refusal, which has `number` and `place` and nothing else; 1 for an unknown request or
 // the unknown response, 2 for a known request, 3 for a failure, 4 for a success, which have all but these two. `fields` has the

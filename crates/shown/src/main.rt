@@ -111,9 +111,10 @@ fn show_reply(m: &[u8], run: &mut [u8], lengths: &mut [u32]) {
     print::put_part(reply_parts::resolved(m, answer));
     print::put_part(reply_parts::data(m, answer));
     print::put_part(reply_parts::creds(m, answer));
-    let last = show_names(m, names::open_answer(answer));
+    let first = names::open_answer(answer);
+    let last = show_names(m, first);
     if is_end(m, last) {
-        print::put(b" end");
+        show_end(m, first.left);
     }
     if let ReplyAnswer::Success { reply, .. } = answer {
         show_success(m, reply, run, lengths);
@@ -164,6 +165,13 @@ fn has_no_next(m: &[u8], position: Position) -> bool {
     match step {
         Step::Name { .. } => false,
         Step::End { .. } => true,
+    }
+}
+
+// Behind the last name, a name by its number shows no bytes.
+fn show_end(m: &[u8], count: u32) {
+    if names_iterator::nth_name(m, count).len() == 0 {
+        print::put(b" end");
     }
 }
 

@@ -7,7 +7,7 @@
 //! ```
 //! use tushalets::{read_request, write_reply, Reply, Request, Success};
 //!
-//! // Once, at start: the linked library is the one that this crate is written for.
+//! // Once, before any other call: the linked library is the one that this crate is written for.
 //! tushalets::check_version()?;
 //!
 //! let message = [0, 0, 0, 7, 0x0b, 0, 0, 0, 2, b'/', b'a', 0, 0, 0, 0];
@@ -21,8 +21,15 @@
 //! # Ok::<(), Box<dyn std::error::Error>>(())
 //! ```
 //!
-//! Call [`check_version`] once at start. A provider gives each message to [`front`], and reads with [`read_request`]
-//! what it hands on; a service reads with [`read_reply`].
+//! [`check_version`] comes before any other call, once at start: a library of another version must not be called. A
+//! provider gives each message to [`front`], and reads with [`read_request`] what it hands on; a service reads with
+//! [`read_reply`].
+//!
+//! # Document 01
+//!
+//! Document 01, which these pages refer to, is the customer's document of rules for the protocol: the table of methods
+//! and their fields, the numbers of refusal, the front. It decides. How a reading shows the fields of each message is
+//! the table of cells in `hosts/c/tushalets.h`.
 //!
 //! # Building
 //!
@@ -81,7 +88,8 @@ impl fmt::Display for WrongVersion {
 
 impl Error for WrongVersion {}
 
-/// Whether the linked library is of the version that this crate is written for. Call it once at start.
+/// Whether the linked library is of the version that this crate is written for. Call it once at start, before any other
+/// function; where it fails, call none of them.
 ///
 /// ```
 /// tushalets::check_version()?;

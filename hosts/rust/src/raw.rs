@@ -2,7 +2,9 @@
 //!
 //! The typed functions of the crate are made of these, and most programs need only those. These are for a program that
 //! keeps numbers, or that writes text it has as bytes. Every function takes every input. What each promises is stated
-//! and proved in the Rattle sources, `crates/exports*`.
+//! and proved in the Rattle sources, `crates/exports*`. Which cells of a [`Reading`] show which field of a message is
+//! in the table of cells in `hosts/c/tushalets.h`. As everywhere in the crate, [`check_version`](crate::check_version)
+//! comes before any other call.
 //!
 //! ```
 //! use tushalets::{numbers::{shapes, types}, raw};
@@ -35,9 +37,10 @@ pub struct Reading {
     pub place: usize,
     /// The length of the known part.
     pub known: usize,
-    /// The fields in the order of document 01's table, a reply's result first, and 0 behind them. A number or a bool
-    /// has one cell; a signed number shows its 32 bits. A text or data has two: its start in the message and its
-    /// length. Names have two: the place of the first and their count, from which [`next_name`] goes.
+    /// The fields in the order of document 01's table, a reply's result first, and 0 behind them: the table of cells in
+    /// `hosts/c/tushalets.h`. A number or a bool has one cell; a signed number shows its 32 bits. A text or data has
+    /// two: its start in the message and its length. Names have two: the place of the first and their count, from which
+    /// [`next_name`] goes. They belong to the message that was read, unchanged.
     pub fields: [u64; 17],
 }
 
@@ -128,8 +131,12 @@ extern "C" {
 // What a caller owes the exported functions, and how slices meet it: a slice is not null, also of length 0, is aligned,
 // and is valid for its length; nothing writes to a `&` slice meanwhile; `out` is `&mut` and so overlaps nothing. No
 // function has a `requires`, so every value is allowed. None keeps a pointer. The laws that are cited are in
-// crates/exports/proofs/SoundHolds.antt. That the linked code is that of these declarations is what the version and
-// tests/declared.rs are for.
+// crates/exports/proofs/SoundHolds.antt.
+//
+// All this holds where the linked library is that of these declarations. A library of another version than `VERSION`
+// must not be called, but for `tushalets_version`: its functions may take and return something else, and no call sees
+// that. `check_version` is for this; it comes before any other call. That the declarations are those of the sources is
+// what tests/declared.rs is for.
 
 /// The version of the linked code; [`VERSION`](crate::VERSION) is the one that this crate is written for.
 #[inline]
@@ -160,7 +167,7 @@ pub fn read_reply(message: &[u8]) -> Reading {
 }
 
 /// The name at a position of a readdir reply. The first position is the two cells behind the result, the others are in
-/// the answers. A position that was made up is harmless, but its name may be no text.
+/// the answers. A position that was made up is harmless: its name lies inside the message, but it may be no text.
 #[inline]
 pub fn next_name(message: &[u8], at: usize, left: u32) -> Name {
     // SAFETY: `message` is valid for its length; no `requires`, so every position is allowed.
@@ -206,8 +213,9 @@ pub fn write_unknown_request(id: u32, type_number: u8, out: &mut [u8]) -> Writte
     unsafe { tushalets_write_unknown_request(id, type_number, out.as_mut_ptr(), out.len()) }
 }
 
-/// Writes a success. `numbers` are the number fields behind the result, as for a request; `run` is its text or data.
-/// The names of a readdir reply are `run`, one behind the other, and `lengths`. A getcreds reply leaves `result` aside.
+/// Writes a success. `type_number` is the reply's, as [`types::READ_REPLY`]. `numbers` are the number fields behind the
+/// result, as for a request; `run` is its text or data. The names of a readdir reply are `run`, one behind the other,
+/// and `lengths`. A getcreds reply leaves `result` aside.
 #[inline]
 pub fn write_reply(
     id: u32,
@@ -225,7 +233,7 @@ pub fn write_reply(
     unsafe { tushalets_write_reply(id, type_number, result, numbers, run, run_len, lengths, lengths_len, out, out_len) }
 }
 
-/// Writes a failure.
+/// Writes a failure. `type_number` is the reply's, of any method but getcreds; `code` is negative.
 #[inline]
 pub fn write_failure(id: u32, type_number: u8, code: i32, out: &mut [u8]) -> Written {
     // SAFETY: `out` is valid for its length and `&mut`; no `requires`.
@@ -345,17 +353,19 @@ impl<'a> NamePosition<'a> {
             return None;
         }
         (self.at, self.left) = (name.at, name.left);
-        // SAFETY: the position was reached by steps from the first one of an accepted reply. By the law `names-sound`
-        // each name on that way is well-formed.
+        // SAFETY: by the law `names-sound`, of a reply whose reading has shape 4 and type 0x93, steps from its cells 1
+        // and 2 meet exactly its names, each inside the message and well-formed. `names` starts there and only steps
+        // move a position. On any other message it starts with none left, and a step finds no name.
         Some(unsafe { text_of(part(self.message, name.start, name.len)) })
     }
 }
 
-/// Whether an accepted message of this shape and type shows a text from this cell on, by document 01's table.
+/// Whether an accepted message of this shape and type shows a text from this cell on, by document 01's table. A type
+/// that is not listed shows none.
 #[inline]
 const fn has_text(shape: u32, type_number: u8, cell: usize) -> bool {
     match (shape, cell) {
-        (shapes::KNOWN, 0) => !matches!(type_number, types::WRITE | types::GETCREDS),
+        (shapes::KNOWN, 0) => matches!(type_number, types::ACCESS..=types::READ | types::MKDIR..=types::UTIMENS),
         (shapes::KNOWN, 2) => matches!(type_number, types::SYMLINK | types::LINK | types::RENAME),
         (shapes::SUCCESS, 0) => matches!(type_number, types::GETCREDS_REPLY),
         (shapes::SUCCESS, 1) => matches!(type_number, types::READLINK_REPLY),
@@ -363,7 +373,8 @@ const fn has_text(shape: u32, type_number: u8, cell: usize) -> bool {
     }
 }
 
-/// A part of the message. By the laws `reading-sound` and `names-sound` it lies inside, so the index never fails.
+/// A part of the message that cells or a step show. By the laws `reading-sound` and `step-inside` (the name that a step
+/// from any position gives) it lies inside, so the index never fails.
 #[inline]
 fn part(message: &[u8], start: usize, len: usize) -> &[u8] {
     &message[start..][..len]
@@ -397,6 +408,79 @@ mod tests {
         message[5] = 0xff;
         message
     };
+
+    /// Document 01's table in the order of the types: the kinds of a request's fields, and of a reply's with its
+    /// result. S is a string.
+    const KINDS: [(&str, &str); types::GETCREDS as usize] = [
+        ("S i8", "i32"),                      // access
+        ("S", "i32 attributes"),              // getattr
+        ("S", "i32 S"),                       // readlink
+        ("S S", "i32"),                       // symlink
+        ("S S", "i32"),                       // link
+        ("S S u8", "i32"),                    // rename
+        ("S u32", "i32"),                     // chmod
+        ("S u32 u32", "i32"),                 // chown
+        ("S u64 u64", "i32"),                 // truncate
+        ("S bool u64", "i32"),                // fsync
+        ("S i32", "i32 u64"),                 // open
+        ("S u32 u64", "i32"),                 // mknod
+        ("S u32", "i32 u64"),                 // create
+        ("S u64", "i32"),                     // release
+        ("S", "i32"),                         // unlink
+        ("S u32 u64 u64", "i32 bytes"),       // read
+        ("bytes u64 u64", "i32"),             // write
+        ("S u32", "i32"),                     // mkdir
+        ("S", "i32 strings"),                 // readdir
+        ("S", "i32"),                         // rmdir
+        ("S", "i32 statistics"),              // statfs
+        ("S timestamp timestamp u64", "i32"), // utimens
+        ("", "S"),                            // getcreds
+    ];
+
+    /// The cells of a reading.
+    const CELLS: usize = 17;
+
+    fn cells_of(kind: &str) -> usize {
+        match kind {
+            "S" | "bytes" | "strings" | "timestamp" => 2,
+            "attributes" => 14,
+            "statistics" => 8,
+            _ => 1,
+        }
+    }
+
+    /// Whether a string begins at this cell of fields of these kinds.
+    fn begins_string(kinds: &str, cell: usize) -> bool {
+        let mut next = 0;
+        kinds.split_whitespace().any(|kind| {
+            let here = next;
+            next += cells_of(kind);
+            kind == "S" && here == cell
+        })
+    }
+
+    /// The kinds of the fields that a message of this shape and type shows; none where there is no such message.
+    fn kinds_of(shape: u32, type_number: u8) -> &'static str {
+        let method = |number: u8| number.checked_sub(1).and_then(|place| KINDS.get(place as usize));
+        match shape {
+            shapes::KNOWN => method(type_number).map_or("", |kinds| kinds.0),
+            shapes::SUCCESS => type_number.checked_sub(types::REPLY).and_then(method).map_or("", |kinds| kinds.1),
+            _ => "",
+        }
+    }
+
+    #[test]
+    fn texts_are_the_strings_of_the_table() {
+        for shape in shapes::REFUSED..=shapes::SUCCESS {
+            for type_number in 0..=u8::MAX {
+                for cell in 0..=CELLS {
+                    let expected = begins_string(kinds_of(shape, type_number), cell);
+                    let place = (shape, type_number, cell);
+                    assert_eq!(has_text(shape, type_number, cell), expected, "shape, type, cell {place:x?}");
+                }
+            }
+        }
+    }
 
     fn request(message: &[u8]) -> Accepted<'_> {
         Accepted::request(message).expect("a request")

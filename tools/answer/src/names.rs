@@ -1,8 +1,8 @@
-//! The names of a readdir reply, one after another by the iterator.
+//! The names of a readdir reply, one after another by the iterator; there are none on any other message.
 
 use crate::checksum::{checksum, Checksum};
 use crate::fields::start_of;
-use tushalets::Names;
+use tushalets::{raw, Names};
 
 /// So many names are shown singly.
 const SHOWN_SINGLY: usize = 200;
@@ -10,9 +10,15 @@ const SHOWN_SINGLY: usize = 200;
 /// So many names are also taken by their number.
 const TAKEN_BY_NUMBER: usize = 64;
 
-/// Where the iterator has nothing to show.
-pub fn show_none() -> String {
-    String::from(" names=0:0 end")
+/// Where the first name of a readdir reply stands.
+const FIRST_NAME: usize = 13;
+
+/// Of a message without names: with none left, two steps from where the first would be find none.
+pub fn show_none(message: &[u8]) -> String {
+    let first = raw::next_name(message, FIRST_NAME, 0);
+    let second = raw::next_name(message, first.at, first.left);
+    let end = if first.found == 0 && second.found == 0 { "end" } else { "again" };
+    format!(" names=0:0 {end}")
 }
 
 pub fn show(message: &[u8], mut names: Names<'_>) -> String {

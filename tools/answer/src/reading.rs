@@ -33,7 +33,7 @@ pub fn show_reply(message: &[u8]) -> String {
     };
     line + &fields::show(message, &fields)
         + &fields::show_parts(&REPLY_PARTS, &fields)
-        + &names.map_or_else(names::show_none, |names| names::show(message, names))
+        + &names.map_or_else(|| names::show_none(message), |names| names::show(message, names))
 }
 
 pub fn show_refusal(refusal: Refusal) -> String {

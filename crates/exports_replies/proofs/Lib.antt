@@ -1,0 +1,2 @@
+-- What the proof of the writer of each type uses.
+mod NoSuchType

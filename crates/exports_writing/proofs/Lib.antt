@@ -1,2 +1,0 @@
--- What the proofs of the writers use.
-mod NoSuchType
