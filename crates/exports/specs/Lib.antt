@@ -1,3 +1,4 @@
 pub mod Given
+pub mod Isolation
 pub mod Shown
 pub mod Sound

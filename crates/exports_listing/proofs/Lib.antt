@@ -1,0 +1,2 @@
+-- The law for hosts.
+pub mod Isolating
