@@ -5,13 +5,13 @@ use mathlib.Core.List.{List, [], _∷_, _++_, map}
 use Prim.Native.Nat.{ℕ, _+_, _%_, _^_, _<_}
 use native.Mathlib.Nat.{add-zero}
 use native.Mathlib.Omega.{arith}
-use lib.IntN.{ℤ, pos, negsuc}
-use lib.ListN.{length, getD, take, drop, length-append}
+use lib.IntN.{ℤ}
+use lib.ListN.{length, getD, drop, length-append}
 use lib.Seq.{getD-drop, drop-drop, take-append-seam, drop-append-seam}
 use Rattle.number.specs.TwosComplement.{signedOf, bitsOf, Signed, not-negative, negative}
 use Rattle.number.proofs.TwosComplement.{signed-bits, bits-below}
-use Rattle.layout.specs.Kinds.{Num, u8, i8, u32, i32, u64, bool, Kind, num, string, bytes, strings}
-use Rattle.layout.specs.Values.{Part, Value, number, signed, truth, run, runs, bytesIn, content, contents, NumFits, fits-u8, fits-u32, fits-u64, fits-i8, fits-i32, fits-bool, Fits, fits-num, fits-string, fits-bytes, fits-strings, AllFit, none, more}
+use Rattle.layout.specs.Kinds.{Num, Kind, bytes}
+use Rattle.layout.specs.Values.{Part, Value, number, signed, truth, run, runs, bytesIn, contents, NumFits, fits-u8, fits-u32, fits-u64, fits-i8, fits-i32, fits-bool, fits-num, fits-string, fits-bytes, fits-strings, AllFit, none, more}
 use Rattle.layout.specs.Writing.{bit, split, sum}
 use Rattle.exports.specs.Shown.{cells}
 use Rattle.exports.specs.Given.{valueBy, given}

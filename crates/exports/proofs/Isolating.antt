@@ -13,8 +13,8 @@ use Rattle.layout.specs.Values.{Value}
 use Rattle.layout.specs.Reading.{Shape, known, success, read}
 use Rattle.layout.specs.Pieces.{kindsOf}
 use Rattle.layout.specs.Writing.{Written, encodeMessage, hasShape, signRight, textsRight, countRight, refuse as refuse-write, check, store, storeChecked, write}
-use Rattle.layout.specs.Front.{Call, hand-on, refuse, reply-with, called, stored, refused, Fronted, done, settle, front}
-use Rattle.exports.specs.Given.{given, summed, requestBy, behindHeader, successBy}
+use Rattle.layout.specs.Front.{Call, hand-on, refuse, reply-with, called, stored, refused, done, settle, front}
+use Rattle.exports.specs.Given.{requestBy, successBy}
 use Rattle.exports.specs.Isolation.{Isolated, WriterIsolated, FrontIsolated}
 
 -- the bytes e in front of what stays where they fit, else the buffer as it was; told by the one answer or the other

@@ -5,17 +5,16 @@ use mathlib.Core.Bool.{Bool, true, false, cond}
 use mathlib.Core.List.{List, [], _∷_, _++_}
 use Prim.Native.Nat.{ℕ, zero, suc, _+_, _≤_}
 use native.Mathlib.Omega.{arith}
-use lib.Dec.{eqb, leb}
+use lib.Dec.{leb}
 use lib.IntN.{ℤ, pos}
 use lib.ListN.{length, take, getD}
 use borrow.Author.Tests.{leb-true}
 use Rattle.number.specs.BigEndian.{Found as Number, whole, truncated as too-few, numberAt}
 use Rattle.text.specs.Utf8.{wellFormed}
 use Rattle.method.specs.declared.Method.the-variants.{Readdir}
-use Rattle.method.specs.Methods.{replyNumber, Found, found, unknown as no-method, ofRequest, ofReply}
-use Rattle.method.proofs.Table.{request-passes, reply-passes}
+use Rattle.method.specs.Methods.{replyNumber, ofReply}
 use Rattle.layout.specs.Kinds.{Num, u8, i8, u32, i32, u64, bool, Kind, num, string, bytes, strings, kinds}
-use Rattle.layout.specs.Table.{Side, request, reply, unknownResponse, Plan, unexpected, header, asked, plain, led, planOf, row, requestPlan, replyPlan, plan}
+use Rattle.layout.specs.Table.{Side, reply, Plan, unexpected, header, asked, plain, led, plan}
 use Rattle.layout.specs.Values.{Part, part, Value, signed, runs, runsOf}
 use Rattle.layout.specs.Reading.{Outcome, got, fail, followed, numOutcome, numAt, runAt, anyBytes, bytesAt, valueOf, Shape, unknown, known, failure, success, Answer, refused, accepted, read}
 use Rattle.layout.specs.Pieces.{kindsOf}
@@ -25,6 +24,7 @@ use Rattle.layout.proofs.Tests.{apart}
 use Rattle.layout.proofs.Trace.{SizedHere, sized-here, StringsHere, no-string, a-string-more, FieldHere, a-num, a-string, a-bytes, a-strings, FieldsHere, no-field, a-field-more, BodyHere, header-only, an-asked, a-plain, a-failure, a-success, message-traced}
 use Rattle.layout.proofs.Iterating.{ended-stays, opened-steps}
 use Rattle.exports.specs.Shown.{cells, allCells, padded, cellCount, shapeNumber, readingOf}
+use Rattle.exports.proofs.Plans.{every-plan}
 use Rattle.exports.specs.Sound.{Inside, Text, Sound, no-more, a-number, a-text, some-bytes, some-names, namesMet, AllText, no-text, a-text-more}
 
 -- ---- the cells of all fields
@@ -82,21 +82,7 @@ few pl = leb (most pl) cellCount
 
 -- one test over the table
 table-few : (side : Side) (t : ℕ) → few (plan side t) ≡ true
-unfolding plan
-table-few request t = go (ofRequest t) refl
-  where
-    go : (f : Found) → ofRequest t ≡ f → few (requestPlan f) ≡ true
-    go (found x) e = request-passes (λ y. few (asked (kinds (row y .request)))) refl t e
-    go no-method e = refl
-table-few reply t = go (eqb t unknownResponse) (ofReply t) refl
-  where
-    found-few : (f : Found) → ofReply t ≡ f → few (replyPlan f) ≡ true
-    found-few (found x) e = reply-passes (λ y. few (planOf (row y .reply))) refl t e
-    found-few no-method e = refl
-
-    go : (b : Bool) (f : Found) → ofReply t ≡ f → few (cond b header (replyPlan f)) ≡ true
-    go true f e = refl
-    go false f e = found-few f e
+table-few side t = every-plan few refl refl refl refl side t
 
 shape-few : (pl : Plan) (s : Shape) → cellsIn (kindsOf pl s) ≤ most pl
 shape-few unexpected s = omega arith

@@ -1,26 +1,25 @@
 -- Laws for hosts: a message that was read, given to the writer of its shape by what its reading shows, is written with the values that were
 -- read. Assumes nothing.
 use mathlib.Core.Path.{_≡_, refl, sym, ap, ap₂, _∙_, subst}
-use mathlib.Core.Bool.{Bool, true, false, cond}
+use mathlib.Core.Bool.{Bool, true, false}
 use mathlib.Core.List.{List, [], _∷_, _++_, map}
 use Prim.Native.Nat.{ℕ}
 use lib.Dec.{eqb}
 use lib.IntN.{ℤ, pos}
-use lib.ListN.{length, drop}
+use lib.ListN.{length}
 use borrow.Author.Tests.{eq-eqb}
 use Rattle.number.specs.BigEndian.{Bytes}
-use Rattle.method.specs.Methods.{Found, found, unknown as no-method, ofRequest, ofReply}
-use Rattle.method.proofs.Table.{request-passes, reply-passes}
-use Rattle.layout.specs.Kinds.{Kind, num, string, bytes, strings, kinds}
-use Rattle.layout.specs.Table.{request, reply, unknownResponse, Plan, unexpected, header, asked, plain, led, planOf, row, requestPlan, replyPlan, plan}
-use Rattle.layout.specs.Values.{Part, Value, number, signed, truth, run, runs, bytesIn, contents, Fits, fits-num, fits-string, fits-bytes, fits-strings, AllFit, none, more}
-use Rattle.layout.specs.Reading.{Shape, known, success, accepted, read}
+use Rattle.layout.specs.Kinds.{Kind, num, string, bytes, strings}
+use Rattle.layout.specs.Table.{request, reply, Plan, unexpected, header, asked, plain, led, plan}
+use Rattle.layout.specs.Values.{Part, Value, number, signed, truth, run, runs, bytesIn, contents, fits-num, fits-string, fits-bytes, fits-strings, AllFit, none, more}
+use Rattle.layout.specs.Reading.{known, success, accepted, read}
 use Rattle.layout.specs.Pieces.{kindsOf}
 use Rattle.layout.specs.Writing.{write, sum}
 use Rattle.layout.proofs.Tests.{never}
 use Rattle.layout.proofs.ReadFits.{accepted-fits}
 use Rattle.layout.proofs.Trace.{BodyHere, a-plain, a-success, message-traced}
 use Rattle.exports.specs.Given.{given, summed, requestBy, behindHeader, successBy}
+use Rattle.exports.proofs.Plans.{every-plan}
 use Rattle.exports.proofs.GivenAgain.{numberCells, joined, runBytes, LengthsOf, sum-joined, given-again}
 
 -- ---- a request
@@ -34,12 +33,7 @@ nameless (strings ∷ ks) = false
 
 -- one test over the table
 request-nameless : (t : ℕ) → nameless (kindsOf (plan request t) known) ≡ true
-unfolding plan
-request-nameless t = go (ofRequest t) refl
-  where
-    go : (f : Found) → ofRequest t ≡ f → nameless (kindsOf (requestPlan f) known) ≡ true
-    go (found x) e = request-passes (λ y. nameless (kinds (row y .request))) refl t e
-    go no-method e = refl
+request-nameless t = every-plan (λ pl. nameless (kindsOf pl known)) refl refl refl refl request t
 
 -- where there are no names, any list is that of their lengths
 no-lengths : (m : List ℕ) {ks : List Kind} (vs : List (Value Part)) → AllFit ks (contents m vs) → nameless ks ≡ true → (ls : List ℕ) → LengthsOf m vs ls
@@ -90,16 +84,7 @@ aloneIn (led c ks) = alone ks
 
 -- one test over the table
 reply-alone : (t : ℕ) → aloneIn (plan reply t) ≡ true
-unfolding plan
-reply-alone t = go (eqb t unknownResponse) (ofReply t) refl
-  where
-    found-alone : (f : Found) → ofReply t ≡ f → aloneIn (replyPlan f) ≡ true
-    found-alone (found x) e = reply-passes (λ y. aloneIn (planOf (row y .reply))) refl t e
-    found-alone no-method e = refl
-
-    go : (b : Bool) (f : Found) → ofReply t ≡ f → aloneIn (cond b header (replyPlan f)) ≡ true
-    go true f e = refl
-    go false f e = found-alone f e
+reply-alone t = every-plan aloneIn refl refl refl refl reply t
 
 nameless-summed : (ks : List Kind) (s ls : List ℕ) → nameless ks ≡ true → summed ks s ls ≡ true
 nameless-summed [] s ls h = refl

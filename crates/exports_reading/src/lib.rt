@@ -11,7 +11,6 @@ ghost use Rattle.layout.specs.Front.{typeOf};
 ghost use Rattle.field.specs.Values.{attributesValues, statisticsValues};
 ghost use Rattle.request_reader.specs.Answers as asked;
 ghost use Rattle.reply_reader.specs.Answers as replied;
-ghost use Rattle.names.specs.Positions.{stepOf};
 ghost use Rattle.exports.specs.Shown.{allCells, padded, cellCount, fieldCells, accepting, readingOf, nameOf};
 ghost use Rattle.exports_reading.specs.Typed.{typed};
 use exports::TushaletsName;

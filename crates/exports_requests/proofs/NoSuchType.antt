@@ -1,5 +1,5 @@
 -- A type that no method has is refused as a known request, and nothing is stored. Assumes nothing.
-use mathlib.Core.Path.{_≡_, refl}
+use mathlib.Core.Path.{refl}
 use mathlib.Core.List.{List, map, reverse}
 use Prim.Native.Nat.{ℕ}
 use Rattle.method.specs.Methods.{methods, requestNumber}
