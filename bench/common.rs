@@ -1,4 +1,4 @@
-//! What the two programs share: the place of the code, texts by a seed, the ordinary text check, and the median.
+//! What the programs share: the place of the code, texts by a seed, the ordinary text check, and the median.
 
 /// Bytes of a cache line.
 const CACHE_LINE: usize = 64;

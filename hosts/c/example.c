@@ -1,4 +1,5 @@
-/* A provider's turn in C: a request read, listed and put to the front; replies written and read back. */
+/* A provider's turn in C: a request read, listed and put to the front; replies written and read back. Then a service's
+ * table: requests entered, replies arriving. */
 #include <stdio.h>
 #include <string.h>
 
@@ -100,29 +101,29 @@ static void print_outcome(const tushalets_reading *reply)
     if (!is_success_of(reply, TUSHALETS_GETCREDS)) printf(" %d", (int)(int32_t)(uint32_t)reply->fields[RESULT]);
 }
 
-static void show_reply(const uint8_t *message, size_t len)
+static void show_reply(const uint8_t *message, size_t len, const tushalets_reading *reply)
 {
-    tushalets_reading reply = tushalets_read_reply(message, len);
-    if (reply.shape == TUSHALETS_SHAPE_REFUSED) {
-        printf("refused %u at %zu\n", reply.number, reply.place);
+    if (reply->shape == TUSHALETS_SHAPE_REFUSED) {
+        printf("refused %u at %zu\n", reply->number, reply->place);
         return;
     }
-    printf("reply %02x id %u", reply.type, reply.id);
-    print_outcome(&reply);
-    printf(" known %zu of %zu\n", reply.known, len);
-    if (is_success_of(&reply, TUSHALETS_READDIR)) show_names(message, len, &reply);
-    if (is_success_of(&reply, TUSHALETS_GETCREDS)) {
+    printf("reply %02x id %u", reply->type, reply->id);
+    print_outcome(reply);
+    printf(" known %zu of %zu\n", reply->known, len);
+    if (is_success_of(reply, TUSHALETS_READDIR)) show_names(message, len, reply);
+    if (is_success_of(reply, TUSHALETS_GETCREDS)) {
         printf("creds ");
-        print_text(message + reply.fields[GETCREDS_CREDS], reply.fields[GETCREDS_CREDS + 1]);
+        print_text(message + reply->fields[GETCREDS_CREDS], reply->fields[GETCREDS_CREDS + 1]);
         printf("\n");
     }
 }
 
 static void show_written(const uint8_t *out, size_t len)
 {
+    tushalets_reading reply = tushalets_read_reply(out, len);
     printf("written");
     print_bytes(out, len);
-    show_reply(out, len);
+    show_reply(out, len, &reply);
 }
 
 static void show_replies(void)
@@ -163,6 +164,52 @@ static void show_refused_write(int32_t result, size_t room)
     printf("%s\n", memcmp(out, before, sizeof out) == 0 ? "buffer as before" : "buffer changed");
 }
 
+static void show_entered(uint64_t *records, uint32_t id, uint8_t type)
+{
+    uint32_t number = tushalets_enter(records, TUSHALETS_RECORDS, id, type);
+    printf("enter %u, type %02x: %s %u\n", id, type, number == 0 ? "entered" : "refused", number);
+}
+
+/* A failure with this id and of this type arrives. */
+static void show_arrived(uint64_t *records, uint32_t id, uint8_t type)
+{
+    uint8_t out[ROOM];
+    tushalets_written written = tushalets_write_failure(id, type, ENOENT_RESULT, out, sizeof out);
+    tushalets_reading reply = tushalets_arrive(records, TUSHALETS_RECORDS, out, written.len);
+    printf("arrive %u, type %02x: ", id, type);
+    show_reply(out, written.len, &reply);
+}
+
+static void show_look(const uint64_t *records, uint32_t id)
+{
+    tushalets_looked looked = tushalets_look(records, TUSHALETS_RECORDS, id);
+    printf("look for %u: ", id);
+    if (looked.number != 0) {
+        printf("refused %u\n", looked.number);
+    } else {
+        printf("%s, type %02x, outstanding %zu\n", looked.held ? "found" : "missing", looked.type, looked.count);
+    }
+}
+
+static void show_table(void)
+{
+    uint64_t records[TUSHALETS_RECORDS] = {0};
+    show_entered(records, 7, TUSHALETS_ACCESS);
+    show_entered(records, 8, TUSHALETS_READ);
+    show_entered(records, 7, TUSHALETS_READ);
+    show_look(records, 8);
+    show_arrived(records, 9, TUSHALETS_READ + TUSHALETS_REPLY);
+    show_arrived(records, 7, TUSHALETS_READ + TUSHALETS_REPLY);
+    show_arrived(records, 8, TUSHALETS_READ + TUSHALETS_REPLY);
+    show_look(records, 8);
+
+    /* A word that is no record: only emptying takes such a table. */
+    records[1] = UINT64_MAX;
+    show_look(records, 7);
+    printf("empty: %u\n", tushalets_empty(records, TUSHALETS_RECORDS));
+    show_look(records, 7);
+}
+
 int main(void)
 {
     if (!tushalets_fits()) {
@@ -179,5 +226,6 @@ int main(void)
     show_replies();
     show_refused_write(2, ROOM);
     show_refused_write(1, READ_REPLY_SIZE - 1);
+    show_table();
     return 0;
 }

@@ -1,4 +1,5 @@
 // A client's and a provider's turn in C++17: requests written, put to the front and read; replies written and read.
+// Then a service's table: requests entered, replies arriving.
 #include <algorithm>
 #include <array>
 #include <cstdint>
@@ -18,6 +19,9 @@ constexpr std::size_t open_path = 0, open_flags = 2, unlink_path = 0, read_data 
 // A type that no method has, and the bytes of a getattr request with a path of two bytes.
 constexpr std::uint8_t no_method = 0x42;
 constexpr std::size_t getattr_size = 11;
+
+// The result for a file that is not there.
+constexpr std::int32_t enoent_result = -2;
 
 constexpr std::uint8_t filling = 0xaa;
 
@@ -114,6 +118,50 @@ void show_refused_write(std::string_view which, tushalets::byte_view path, std::
               << " bytes stored, " << (kept ? "buffer as before" : "buffer changed") << '\n';
 }
 
+void show_outstanding(const tushalets::outstanding &table, std::uint32_t id) {
+    const auto type = table.type_of(id);
+    std::cout << table.size() << " outstanding, " << id << ' ';
+    if (type) {
+        std::cout << "with type " << unsigned(*type) << '\n';
+    } else {
+        std::cout << "not\n";
+    }
+}
+
+// A failure with this id and of this type arrives.
+void show_arrived(tushalets::outstanding &table, std::uint32_t id, std::uint8_t type) {
+    room out;
+    const auto written = tushalets::write_failure(id, type, enoent_result, out);
+    const auto reply = table.arrive(stored(out, written.len));
+    std::cout << "reply to " << id << ": ";
+    if (reply) {
+        std::cout << "result " << reply.signed_number(result) << '\n';
+    } else {
+        std::cout << "refused " << reply.refusal() << " at " << reply.place() << '\n';
+    }
+}
+
+void show_entered(tushalets::outstanding &table, std::uint32_t id, std::uint8_t type) {
+    const auto number = table.enter(id, type);
+    std::cout << "request " << id << ": " << (number == 0 ? "entered " : "refused ") << number << '\n';
+}
+
+void show_table() {
+    constexpr std::uint32_t one_more = tushalets::outstanding::capacity;
+    tushalets::outstanding table;
+    for (std::uint32_t id = 0; id < one_more; id++) table.enter(id, TUSHALETS_OPEN);
+    show_entered(table, 1, TUSHALETS_STATFS);
+    show_entered(table, one_more, TUSHALETS_STATFS);
+    show_arrived(table, one_more, TUSHALETS_STATFS + TUSHALETS_REPLY);
+    show_arrived(table, 1, TUSHALETS_STATFS + TUSHALETS_REPLY);
+    show_arrived(table, 1, TUSHALETS_OPEN + TUSHALETS_REPLY);
+    show_outstanding(table, 1);
+    show_entered(table, one_more, TUSHALETS_STATFS);
+    show_outstanding(table, one_more);
+    table.clear();
+    show_outstanding(table, one_more);
+}
+
 } // namespace
 
 int main() {
@@ -133,4 +181,5 @@ int main() {
     show_refused_write("buffer too small", "/a", getattr_size - 1);
     const auto written = tushalets::write_request(6, TUSHALETS_GETCREDS, {}, {}, {}, {});
     std::cout << "a buffer of nothing: refused " << written.number << " at " << written.place << '\n';
+    show_table();
 }

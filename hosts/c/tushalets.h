@@ -1,14 +1,17 @@
-/* The webfuse2 message layer for C99 and C++: requests and replies read and written, on numbers and bytes.
+/* The webfuse2 message layer for C99 and C++: requests and replies read and written, on numbers and bytes, and the
+ * table of a service's outstanding requests.
  * x86-64 Linux; link with libtushalets.a. Compare the version once at start (tushalets_fits).
  *
  * What a caller owes at each call:
  *   - Each pointer is valid for its length, in bytes or in words. It is not null, also where the length is 0.
- *   - `numbers` and `lengths` are aligned for their type. `numbers` has all its words, also where fewer are looked at.
- *   - Above all, `out` overlaps no other argument. A text is checked before anything is stored, so an overlap could
- *     change it after its check.
- *   - Until the call returns, no other thread writes what is read, and none touches `out`.
+ *   - `numbers`, `lengths` and `records` are aligned for their type. `numbers` has all its words, also where fewer are
+ *     looked at.
+ *   - Above all, `out` overlaps no other argument, and neither does `records`. A text is checked before anything is
+ *     stored, so an overlap could change it after its check.
+ *   - Until the call returns, no other thread writes what is read, and none touches `out`, or `records` that the call
+ *     may change.
  * Anything else is promised: every function ends and gives the right answer for every message and every value. No
- * message has to be checked beforehand. No function allocates, keeps a pointer or has state. */
+ * message and no record has to be checked beforehand. No function allocates, keeps a pointer or has state. */
 #ifndef TUSHALETS_H
 #define TUSHALETS_H
 
@@ -19,12 +22,15 @@
 extern "C" {
 #endif
 
-/* The version of the functions, their arguments and the cells below. */
+/* The version of the functions below, their arguments, the cells and the words of a table. */
 #define TUSHALETS_VERSION 1
 
 /* Bytes of the longest message, and bytes that hold every listing. */
 #define TUSHALETS_LONGEST 65536
 #define TUSHALETS_LONGEST_LISTING 256
+
+/* Records of a table of outstanding requests. */
+#define TUSHALETS_RECORDS 64
 
 /* Types of requests. The type of a method's reply is TUSHALETS_REPLY more. */
 enum {
@@ -59,13 +65,19 @@ enum {
 enum {
     TUSHALETS_TRUNCATED_HEADER = 1,     /* fewer bytes than id and type have */
     TUSHALETS_OVERSIZE = 2,             /* more than TUSHALETS_LONGEST bytes, read or to be written */
-    TUSHALETS_UNEXPECTED_TYPE = 3,      /* a type that such a message does not have */
+    TUSHALETS_UNEXPECTED_TYPE = 3,      /* a type that such a message does not have, or that cannot be entered */
     TUSHALETS_TRUNCATED = 4,            /* a number or bytes of a declared length do not fit into the message */
     TUSHALETS_MALFORMED_TEXT = 5,       /* a string is no well-formed UTF-8 */
     TUSHALETS_DATA_LENGTH_MISMATCH = 6, /* the result of a read reply is not the length of its data */
     TUSHALETS_BUFFER_TOO_SMALL = 7,     /* `out` is shorter than what is to be stored */
     TUSHALETS_RESULT_SIGN = 8,          /* a success with a negative result, or a failure without one */
-    TUSHALETS_LENGTHS_MISMATCH = 9      /* the lengths of names do not sum to their bytes */
+    TUSHALETS_LENGTHS_MISMATCH = 9,     /* the lengths of names do not sum to their bytes */
+    TUSHALETS_ID_OUTSTANDING = 10,      /* a request with this id is outstanding already */
+    TUSHALETS_TABLE_FULL = 11,          /* every record of the table holds a request */
+    TUSHALETS_ID_NOT_OUTSTANDING = 12,  /* a reply to an id that is not outstanding */
+    TUSHALETS_TYPE_MISMATCH = 13,       /* a reply of a type that does not answer the request */
+    TUSHALETS_UNSOUND_TABLE = 20        /* not 64 words, a word that is no record, an id held twice, or a held type of
+                                         * TUSHALETS_REPLY or above */
 };
 
 /* Shapes of a reading. */
@@ -135,8 +147,8 @@ enum {
  *   failure            result 0 (i32): every method but getcreds, which has none
  *   unknown            none: request and response */
 
-/* The answer of a reader. A refusal has `number` (1 to 6) and `place`, and all else is 0. An accepted message has all
- * but these two, which are 0. */
+/* The answer of a reader. A refusal has `number` (1 to 6; of tushalets_arrive also 12, 13 and 20) and `place`, and all
+ * else is 0. An accepted message has all but these two, which are 0. */
 typedef struct tushalets_reading {
     uint32_t shape;
     uint32_t number;
@@ -174,6 +186,16 @@ typedef struct tushalets_fronted {
     size_t len;
     size_t place;
 } tushalets_fronted;
+
+/* The answer of a look at a table of outstanding requests. `number` is 0: `count` requests are outstanding. Where
+ * `held` is 1 the id that was asked for is one of them, and `type` is the type of its request; else both are 0. Or
+ * `number` is that of a refusal (20), and all else is 0. */
+typedef struct tushalets_looked {
+    uint32_t number;
+    uint32_t held;
+    uint32_t type;
+    size_t count;
+} tushalets_looked;
 
 /* The version of the library that is linked. */
 uint32_t tushalets_version(void);
@@ -228,6 +250,37 @@ tushalets_written tushalets_write_failure(uint32_t id, uint8_t type, int32_t cod
 /* Writes the unknown response: five bytes. */
 tushalets_written tushalets_write_unknown_response(uint32_t id, uint8_t *out, size_t out_len);
 
+/* The table of outstanding requests, for a service: which ids wait for a reply, and the type of each one's request. It
+ * is TUSHALETS_RECORDS words that the service keeps, and lends to each call with their number. A new table is all 0, as
+ * {0} or tushalets_empty makes it; from then on only these functions change its words. One word is one record:
+ *   free     0
+ *   held     bits 0 to 31 the id, bits 32 to 39 the type of the request, bit 48 set, all other bits 0
+ * Words are good for one version.
+ *
+ * A table is sound where it has TUSHALETS_RECORDS words, each is a record, no id is held twice and every held type is
+ * below TUSHALETS_REPLY. What these functions leave of a sound table is sound. All but tushalets_empty refuse any other
+ * as TUSHALETS_UNSOUND_TABLE, before they look at anything else. A refused call changes no word.
+ *
+ * A request whose reply never comes, or that could not be sent, stays outstanding; only emptying removes it. */
+
+/* Frees every record, whatever the words were. Answers 0, or TUSHALETS_UNSOUND_TABLE where there are not
+ * TUSHALETS_RECORDS words. The place of a refusal is 0. */
+uint32_t tushalets_empty(uint64_t *records, size_t records_len);
+
+/* Enters a request, before it is sent, into the first free record. Answers 0, or the number of a refusal. After the
+ * table's own these are, in this order, TUSHALETS_UNEXPECTED_TYPE for a type of TUSHALETS_REPLY or above,
+ * TUSHALETS_ID_OUTSTANDING and TUSHALETS_TABLE_FULL. The place of a refusal is 0. */
+uint32_t tushalets_enter(uint64_t *records, size_t records_len, uint32_t id, uint8_t type);
+
+/* Reads a reply, and frees the record of its request. The answer is that of tushalets_read_reply where the id is
+ * outstanding and the reply's type is TUSHALETS_REPLY more than the request's, or TUSHALETS_UNKNOWN_RESPONSE. Else it
+ * is a refusal: after the table's own these are, in this order, the reader's with its place,
+ * TUSHALETS_ID_NOT_OUTSTANDING and TUSHALETS_TYPE_MISMATCH, whose place is 0 as that of the table's own. */
+tushalets_reading tushalets_arrive(uint64_t *records, size_t records_len, const uint8_t *message, size_t message_len);
+
+/* For an operator: how many requests are outstanding, and whether and with which type this id is. */
+tushalets_looked tushalets_look(const uint64_t *records, size_t records_len, uint32_t id);
+
 /* Whether the library that is linked has the version of this header. */
 static inline int tushalets_fits(void)
 {
@@ -240,6 +293,7 @@ typedef char tushalets_reading_has_fields_at_32[offsetof(tushalets_reading, fiel
 typedef char tushalets_name_has_32_bytes[sizeof(tushalets_name) == 32 ? 1 : -1];
 typedef char tushalets_written_has_24_bytes[sizeof(tushalets_written) == 24 ? 1 : -1];
 typedef char tushalets_fronted_has_24_bytes[sizeof(tushalets_fronted) == 24 ? 1 : -1];
+typedef char tushalets_looked_has_24_bytes[sizeof(tushalets_looked) == 24 ? 1 : -1];
 
 #ifdef __cplusplus
 }

@@ -8,6 +8,7 @@
 #include <cstddef>
 #include <cstdint>
 #include <iterator>
+#include <optional>
 #include <string_view>
 #include <type_traits>
 #include <utility>
@@ -229,12 +230,63 @@ class reading {
     }
 
   private:
+    friend class outstanding;
+
     static constexpr std::size_t items = 1;
 
     reading(byte_view message, const tushalets_reading &answer) noexcept : message_(message), answer_(answer) {}
 
     byte_view message_;
     tushalets_reading answer_;
+};
+
+// The requests of a service that still wait for a reply: ids, each with the type of its request. The records are
+// inside, and only these functions change them, so a refusal as TUSHALETS_UNSOUND_TABLE never occurs. A service whose
+// records lie elsewhere lends them to the functions of tushalets.h. A request whose reply never comes, or that could
+// not be sent, stays outstanding; only emptying (clear) removes it. While one thread changes a table, no other uses it;
+// several may look.
+class outstanding {
+  public:
+    // So many requests may be outstanding at a time.
+    static constexpr std::size_t capacity = TUSHALETS_RECORDS;
+
+    // Enters a request, before it is sent. Answers 0, or the number of a refusal. A refusal changes nothing, and its
+    // place is 0.
+    std::uint32_t enter(std::uint32_t id, std::uint8_t type) noexcept {
+        return tushalets_enter(records_.data(), records_.size(), id, type);
+    }
+
+    // Reads a reply as reading::reply does, and removes the request that it answers. A refusal changes nothing.
+    reading arrive(byte_view message) noexcept {
+        return {message, tushalets_arrive(records_.data(), records_.size(), message.data(), message.size())};
+    }
+
+    // A temporary that owns the message is not taken, as in a reading.
+    template <class Owner, class = std::enable_if_t<!detail::is_borrowed_range<Owner>>>
+    reading arrive(const Owner &&) = delete;
+
+    // How many requests are outstanding.
+    std::size_t size() const noexcept { return look(any_id).count; }
+    bool empty() const noexcept { return size() == 0; }
+
+    // The type of the request with this id, where it is outstanding.
+    std::optional<std::uint8_t> type_of(std::uint32_t id) const noexcept {
+        const tushalets_looked looked = look(id);
+        if (looked.held == 0) return {};
+        return static_cast<std::uint8_t>(looked.type);
+    }
+
+    // Removes all requests.
+    void clear() noexcept { tushalets_empty(records_.data(), records_.size()); }
+
+  private:
+    static constexpr std::uint32_t any_id = 0;
+
+    tushalets_looked look(std::uint32_t id) const noexcept {
+        return tushalets_look(records_.data(), records_.size(), id);
+    }
+
+    std::array<std::uint64_t, capacity> records_{};
 };
 
 // The answers of writers and front, as in tushalets.h.

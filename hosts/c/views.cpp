@@ -1,4 +1,5 @@
-// What tushalets.hpp takes as bytes, and what it does not: checked in compiling this file, which makes no program.
+// What tushalets.hpp takes as bytes, and what it does not, and what may be done with a constant table: checked in
+// compiling this file, which makes no program.
 #include <array>
 #include <cstddef>
 #include <cstdint>
@@ -14,6 +15,7 @@ namespace {
 
 using tushalets::buffer;
 using tushalets::byte_view;
+using tushalets::outstanding;
 using tushalets::reading;
 
 using bytes = std::vector<std::uint8_t>;
@@ -52,14 +54,18 @@ static_assert(!std::is_constructible_v<buffer, const bytes &> && !std::is_constr
 
 template <class T> using request_of = decltype(reading::request(std::declval<T>()));
 template <class T> using reply_of = decltype(reading::reply(std::declval<T>()));
+template <class T> using arrived_of = decltype(std::declval<outstanding &>().arrive(std::declval<T>()));
 template <class T> using fronted_of = decltype(tushalets::front(std::declval<T>(), std::declval<buffer>()));
 
 // Whether a call with such an argument compiles.
 template <template <class> class Call, class T, class = void> constexpr bool compiles = false;
 template <template <class> class Call, class T> constexpr bool compiles<Call, T, std::void_t<Call<T>>> = true;
 
-template <class T> constexpr bool is_read = compiles<request_of, T> && compiles<reply_of, T>;
-template <class T> constexpr bool is_not_read = !compiles<request_of, T> && !compiles<reply_of, T>;
+template <class T>
+constexpr bool is_read = compiles<request_of, T> && compiles<reply_of, T> && compiles<arrived_of, T>;
+
+template <class T>
+constexpr bool is_not_read = !compiles<request_of, T> && !compiles<reply_of, T> && !compiles<arrived_of, T>;
 
 // A reading points into the message, which has to stay.
 static_assert(is_read<bytes &> && is_read<const bytes &> && is_read<byte_array &> && is_read<const byte_array &>);
@@ -74,5 +80,22 @@ static_assert(is_not_read<char (&)[64]> && is_not_read<const char *> && is_not_r
 // The front is done with the message when it returns.
 static_assert(compiles<fronted_of, bytes> && compiles<fronted_of, std::string> && compiles<fronted_of, byte_array>);
 static_assert(!compiles<fronted_of, char (&)[64]> && !compiles<fronted_of, const char *>);
+
+template <class T> using entered_in = decltype(std::declval<T>().enter(0, TUSHALETS_READ));
+template <class T> using arrived_at = decltype(std::declval<T>().arrive(std::declval<byte_view>()));
+template <class T> using cleared_in = decltype(std::declval<T>().clear());
+template <class T> using asked_in = decltype(std::declval<T>().type_of(std::uint32_t(std::declval<T>().size())));
+
+template <class T>
+constexpr bool is_changed = compiles<entered_in, T> && compiles<arrived_at, T> && compiles<cleared_in, T>;
+
+template <class T>
+constexpr bool is_not_changed = !compiles<entered_in, T> && !compiles<arrived_at, T> && !compiles<cleared_in, T>;
+
+// A constant table is asked, and not changed.
+static_assert(compiles<asked_in, outstanding &> && compiles<asked_in, const outstanding &>);
+static_assert(is_changed<outstanding &> && is_not_changed<const outstanding &>);
+static_assert(std::is_nothrow_default_constructible_v<outstanding> && std::is_trivially_copyable_v<outstanding>);
+static_assert(sizeof(outstanding) == outstanding::capacity * sizeof(std::uint64_t));
 
 } // namespace

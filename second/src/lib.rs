@@ -1,5 +1,5 @@
 //! A second implementation of the webfuse2 message layer, written from
-//! document 01 and the protocol page, to compare another one with.
+//! documents 01 and 02 and the protocol page, to compare another one with.
 
 pub mod answer;
 pub mod compare;
@@ -12,6 +12,8 @@ pub mod listing;
 pub mod make;
 pub mod methods;
 pub mod names;
+pub mod outstanding;
+pub mod record_bytes;
 pub mod refusal;
 pub mod reply;
 pub mod request;

@@ -35,7 +35,10 @@ pub struct Field {
     pub kind: Kind,
 }
 
-/// `number` is the request's type; the reply's type is 0x80 more.
+/// A reply's type is its request's type plus this.
+pub const REPLY_OFFSET: u8 = 0x80;
+
+/// `number` is the request's type.
 #[derive(Debug, PartialEq)]
 pub struct Method {
     pub number: u8,
@@ -46,7 +49,7 @@ pub struct Method {
 
 impl Method {
     pub fn reply_number(&self) -> u8 {
-        self.number + 0x80
+        self.number + REPLY_OFFSET
     }
 }
 

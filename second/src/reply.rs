@@ -1,7 +1,7 @@
 //! The reply reader.
 
 use crate::cursor::{check_whole, Cursor};
-use crate::methods::{method_of_reply, Method, GETCREDS, READ, UNKNOWN_RESPONSE};
+use crate::methods::{method_of_reply, Method, GETCREDS, READ, REPLY_OFFSET, UNKNOWN_RESPONSE};
 use crate::refusal::{refuse, Refusal, DATA_LENGTH_MISMATCH, UNEXPECTED_TYPE};
 use crate::value::{Part, Value};
 
@@ -13,6 +13,19 @@ pub enum Reply<'a> {
     Credentials { id: u32, creds: Part<'a>, known: usize },
     UnknownResponse { id: u32, known: usize },
     Refused(Refusal),
+}
+
+impl Reply<'_> {
+    /// Id and type of an accepted reply.
+    pub fn id_and_kind(&self) -> Result<(u32, u8), Refusal> {
+        match *self {
+            Reply::Success { id, method, .. } => Ok((id, method.reply_number())),
+            Reply::Failure { id, kind, .. } => Ok((id, kind)),
+            Reply::Credentials { id, .. } => Ok((id, GETCREDS + REPLY_OFFSET)),
+            Reply::UnknownResponse { id, .. } => Ok((id, UNKNOWN_RESPONSE)),
+            Reply::Refused(refusal) => Err(refusal),
+        }
+    }
 }
 
 pub fn read_reply(message: &[u8]) -> Reply<'_> {

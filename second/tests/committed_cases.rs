@@ -1,5 +1,5 @@
-//! The cases and answers of op `s` that the small program is tested with are
-//! those that this program makes: `second make 1 700 s`, and `second answer`.
+//! The cases and answers of the ops `s` and `o` that the small program is tested
+//! with are those that this program makes: `second make 1 900 so`, and `second answer`.
 
 use std::fs;
 use std::path::{Path, PathBuf};
@@ -9,21 +9,18 @@ use second::make::case::Case;
 use second::make::Cases;
 
 const SEED: u64 = 1;
-const COUNT: usize = 700;
+const COUNT: usize = 900;
 
-/// The small program takes no more than this.
-const MOST_BYTES: usize = 120_000;
-const LONGEST_MESSAGE: usize = 300;
-
-/// The message stands behind the side and the room.
-const MESSAGE: usize = 5;
+/// The small program takes no more than this, and its memory for a body is more.
+const MOST_BYTES: usize = 140_000;
+const LONGEST_BODY: usize = 1_500;
 
 fn committed(name: &str) -> PathBuf {
     Path::new(env!("CARGO_MANIFEST_DIR")).join("../crates/shown").join(name)
 }
 
 fn made() -> Vec<Case> {
-    Cases::of(SEED, "s").take(COUNT).collect()
+    Cases::of(SEED, "so").take(COUNT).collect()
 }
 
 fn framed(cases: &[Case]) -> Vec<u8> {
@@ -43,5 +40,5 @@ fn committed_cases_and_answers_are_made_here() {
 fn committed_cases_are_small() {
     let cases = made();
     assert!(framed(&cases).len() < MOST_BYTES);
-    assert!(cases.iter().all(|case| case.body.len() <= MESSAGE + LONGEST_MESSAGE));
+    assert!(cases.iter().all(|case| case.body.len() <= LONGEST_BODY));
 }

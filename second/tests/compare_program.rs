@@ -40,12 +40,13 @@ fn line(number: usize) -> String {
 
 #[test]
 fn the_second_program_agrees_with_itself() {
-    let wanted: [&[&str]; 5] = [
+    let wanted: [&[&str]; 6] = [
         &["1", "3000", SECOND, "answer"],
         &["--ops=dg", "2", "1", SECOND, "answer"],
         &["--ops=s", "3", "100", SECOND, "answer"],
         &["--fixed", "4", "3000", SECOND, "answer"],
         &["--fixed", "--ops=qs", "5", "9000", SECOND, "answer"],
+        &["--fixed", "--ops=to", "6", "1000", SECOND, "answer"],
     ];
     for arguments in wanted {
         let (status, printed) = compared(arguments);
@@ -69,7 +70,7 @@ fn wrong_lines_are_differences() {
 #[test]
 fn the_fixed_list_comes_first_where_it_is_asked_for() {
     let number = 7;
-    for ops in [OPS, "s"] {
+    for ops in [OPS, "s", "t", "o"] {
         let case = Cases::of(SEED, ops).nth(number).unwrap();
         let chosen = format!("--ops={ops}");
         let wrong = format!(r#""$0" answer | sed '{}s/^/x/'"#, number + 1);

@@ -4,14 +4,14 @@
 use std::collections::{BTreeMap, BTreeSet};
 
 use second::answer::{answer, answer_all, LONGEST_BODY};
-use second::make::{fixed_list, Cases, OPS, SHOWN_OP};
+use second::make::{fixed_list, Cases, NAMED_OPS, OPS};
 
 fn framed(seed: u64, count: usize) -> Vec<u8> {
     Cases::new(seed).take(count).flat_map(|case| case.framed()).collect()
 }
 
 /// The fixed list and many cases behind it.
-const COUNT: usize = 14_000;
+const COUNT: usize = 15_000;
 
 #[test]
 fn every_case_has_one_line() {
@@ -35,22 +35,27 @@ fn seeds_decide() {
 
 #[test]
 fn fresh_cases_are_those_behind_the_fixed_list() {
-    for ops in [OPS, "dl", "s", "qs"] {
+    for ops in [OPS, "dl", "s", "qs", "t", "o"] {
         let behind = Cases::of(4, ops).skip(fixed_list(ops).len()).map(|case| case.framed());
         let fresh = Cases::fresh(4, ops).map(|case| case.framed());
         assert!(behind.take(200).eq(fresh.take(200)));
     }
 }
 
+/// The ops of a run, first of its fixed list, then of those by a seed.
+fn met(ops: &str) -> [BTreeSet<char>; 2] {
+    let fresh = Cases::fresh(8, ops).take(1_000).collect();
+    [fixed_list(ops), fresh].map(|cases| cases.iter().map(|case| char::from(case.op)).collect())
+}
+
 #[test]
-fn op_s_is_there_where_it_is_named() {
-    let ops = |ops: &str| -> BTreeSet<char> {
-        let cases = fixed_list(ops).into_iter().chain(Cases::fresh(8, ops).take(200));
-        cases.map(|case| char::from(case.op)).collect()
-    };
-    assert!(!ops(OPS).contains(&SHOWN_OP));
-    assert!(ops("s").into_iter().eq([SHOWN_OP]));
-    assert!(ops("qs").into_iter().eq(['q', SHOWN_OP]));
+fn every_op_is_made() {
+    for ops in [OPS, NAMED_OPS, "s", "o", "t", "qs", "os", "tq"] {
+        for met in met(ops) {
+            assert_eq!(met, ops.chars().collect(), "{ops}");
+        }
+    }
+    assert!(NAMED_OPS.chars().all(|op| !OPS.contains(op)));
 }
 
 #[test]
@@ -81,14 +86,14 @@ fn many_random_replies_have_many_names() {
 }
 
 /// The numbers of refusal that the answers to each op show.
-fn refusals() -> BTreeMap<char, BTreeSet<String>> {
-    let mut found: BTreeMap<char, BTreeSet<String>> = BTreeMap::new();
-    for case in fixed_list(OPS) {
+fn refusals(ops: &str) -> BTreeMap<char, BTreeSet<u8>> {
+    let mut found: BTreeMap<char, BTreeSet<u8>> = BTreeMap::new();
+    for case in fixed_list(ops) {
         let line = answer(case.op, &case.body).unwrap();
         let numbers = found.entry(char::from(case.op)).or_default();
-        // A listing may tell a refusal behind its own words.
-        if let Some((_, rest)) = line.split_once("refused ") {
-            numbers.insert(rest[..1].to_string());
+        // A listing may tell a refusal behind its own words, and a table several.
+        for told in line.split("refused ").skip(1) {
+            numbers.insert(told.split(' ').next().unwrap().parse().unwrap());
         }
     }
     found
@@ -96,24 +101,27 @@ fn refusals() -> BTreeMap<char, BTreeSet<String>> {
 
 #[test]
 fn the_fixed_list_has_every_refusal_of_every_op() {
-    let wanted = [
-        ('c', "257"),
-        ('d', "25789"),
-        ('e', "7"),
-        ('f', "17"),
-        ('g', "1234567"),
-        ('l', "12457"),
-        ('p', "123456"),
-        ('q', "1245"),
-        ('r', "25678"),
-        ('u', "37"),
-        ('w', "257"),
-        ('x', "378"),
+    let wanted: [(char, &[u8]); 14] = [
+        ('c', &[2, 5, 7]),
+        ('d', &[2, 5, 7, 8, 9]),
+        ('e', &[7]),
+        ('f', &[1, 7]),
+        ('g', &[1, 2, 3, 4, 5, 6, 7]),
+        ('l', &[1, 2, 4, 5, 7]),
+        // A message of `o` is never too long.
+        ('o', &[1, 3, 4, 5, 6, 10, 11, 12, 13, 20]),
+        ('p', &[1, 2, 3, 4, 5, 6]),
+        ('q', &[1, 2, 4, 5]),
+        ('r', &[2, 5, 6, 7, 8]),
+        ('t', &[1, 2, 3, 4, 5, 6, 10, 11, 12, 13, 20]),
+        ('u', &[3, 7]),
+        ('w', &[2, 5, 7]),
+        ('x', &[3, 7, 8]),
     ];
-    let found = refusals();
+    let found = refusals(&format!("{OPS}o"));
     assert_eq!(found.len(), wanted.len());
     for (op, numbers) in wanted {
-        assert_eq!(found[&op].iter().cloned().collect::<String>(), numbers, "op {op}");
+        assert!(found[&op].iter().eq(numbers), "op {op}: {:?}", found[&op]);
     }
 }
 

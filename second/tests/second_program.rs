@@ -28,6 +28,7 @@ fn assert_piped(ops: &str, count: usize) {
 fn made_cases_are_answered_through_a_pipe() {
     assert_piped("qdl", 300);
     assert_piped("s", 900);
+    assert_piped("to", 1_000);
 }
 
 #[test]

@@ -1,5 +1,8 @@
 //! Answer lines of what an answer's own functions show.
 
+mod common;
+
+use common::framed;
 use second::answer::answer;
 use second::hash::hash;
 use second::hex::from_hex;
@@ -140,11 +143,6 @@ fn cases_out_of_format_are_errors() {
     assert!(sized(5, 1_025).is_err());
     assert!(answer(b's', &from_hex("02 00000000 00000001 17")).is_err());
     assert!(answer(b's', &from_hex("00 000000")).is_err());
-}
-
-/// The message as another op's case has it.
-fn framed(message: &[u8]) -> Vec<u8> {
-    [&(message.len() as u32).to_be_bytes()[..], &[0], message].concat()
 }
 
 /// LEN:HASH of a part that a reader's line shows.

@@ -47,7 +47,7 @@ fn compare_limits(random: &mut Random) {
 }
 
 /// A copy with up to two other bytes, cut or with bytes behind it.
-fn damaged(message: &[u8], random: &mut Random) -> Vec<u8> {
+pub fn damaged(message: &[u8], random: &mut Random) -> Vec<u8> {
     let mut copy = message.to_vec();
     for _ in 0..random.below(3) {
         let place = random.below(copy.len());
@@ -127,7 +127,9 @@ fn same_stores<T: PartialEq + std::fmt::Debug>(
 }
 
 /// A reply with its names in a list.
-fn collected<'a, N: Iterator<Item = &'a str>>(received: Received<Reply<'a, N>>) -> Received<Reply<'a, Vec<&'a str>>> {
+pub fn collected<'a, N: Iterator<Item = &'a str>>(
+    received: Received<Reply<'a, N>>,
+) -> Received<Reply<'a, Vec<&'a str>>> {
     let Received { id, known, body } = received;
     Received { id, known, body: body.map_names(N::collect) }
 }

@@ -5,15 +5,13 @@ mod agreement;
 mod common;
 mod messages;
 mod ordinary;
+mod timing;
 
-use common::{median, Random, PADDING, RUNS, SEED};
+use common::{Random, PADDING, SEED};
 use messages::ID;
 use std::hint::black_box;
-use std::time::Instant;
+use timing::{row, title};
 use tushalets::{NameRun, Received, Refusal, Reply, Request, Success, LONGEST};
-
-/// A run repeats its call until it takes so long, since the clock is too coarse for one call.
-const LEAST_NANOSECONDS: f64 = 100_000.0;
 
 /// The data of the read replies, and the names of the two directories.
 const DATA: [u8; 4096] = [0x7f; 4096];
@@ -24,8 +22,7 @@ fn main() {
     tushalets::check_version().expect("the library fits");
     let mut random = Random(SEED);
     let count = agreement::compare(&mut random);
-    println!("layer, code {PADDING} bytes further; same answers on {count} messages");
-    println!("{:<32} {:>12} {:>12} {:>7}", "", "ordinary ns", "proved ns", "ratio");
+    title(&format!("layer, code {PADDING} bytes further; same answers on {count} messages"));
     for (name, request) in [("access", messages::ACCESS), ("rename", messages::RENAME), ("read", messages::READ)] {
         time_read_request(&format!("read {name} request"), &request);
     }
@@ -100,34 +97,4 @@ fn time_front(name: &str, request: &Request<'_>) {
         || tushalets::front(black_box(&message), black_box(&mut ours)),
         || ordinary::front(black_box(&message), black_box(&mut theirs)),
     );
-}
-
-/// Times both sides in turns, and prints the medians and their ratio.
-fn row<A, B>(name: &str, mut ours: impl FnMut() -> A, mut theirs: impl FnMut() -> B) {
-    let calls = calls_for(&mut theirs);
-    let (mut our_times, mut their_times) = (Vec::new(), Vec::new());
-    for _ in 0..RUNS {
-        their_times.push(nanoseconds(calls, &mut theirs));
-        our_times.push(nanoseconds(calls, &mut ours));
-    }
-    let (ours, theirs) = (median(our_times), median(their_times));
-    println!("{name:<32} {theirs:>12.1} {ours:>12.1} {:>7.2}", ours / theirs);
-}
-
-/// How many calls take long enough to be timed.
-fn calls_for<A>(call: &mut impl FnMut() -> A) -> u32 {
-    let mut calls = 1;
-    while nanoseconds(calls, call) * f64::from(calls) < LEAST_NANOSECONDS {
-        calls *= 2;
-    }
-    calls
-}
-
-/// The time for one of so many calls.
-fn nanoseconds<A>(calls: u32, call: &mut impl FnMut() -> A) -> f64 {
-    let start = Instant::now();
-    for _ in 0..calls {
-        black_box(call());
-    }
-    start.elapsed().as_nanos() as f64 / f64::from(calls)
 }

@@ -1,7 +1,7 @@
 //! An ordinary Rust program for the same messages, written from document 01: slices, `Result` and `?`. It gives the
 //! types of crate `tushalets`, so that answers can be compared. Readers and writers check each text once, byte by byte.
 //! All of it is inlined where it is called, as in a program that has these functions as its own.
-mod reading;
+pub mod reading;
 mod writing;
 
 pub use reading::{read_reply, read_request};
@@ -16,7 +16,7 @@ const HEADER_SIZE: usize = 5;
 /// The front's result for a damaged request.
 const INVALID_ARGUMENT: i32 = -22;
 
-fn refuse<T>(number: u8, place: usize) -> Result<T, Refusal> {
+pub fn refuse<T>(number: u8, place: usize) -> Result<T, Refusal> {
     Err(Refusal { number, place })
 }
 

@@ -1,3 +1,3 @@
 -- What the proofs of both readers use.
 mod Signs
-mod Typed
+pub mod Typed

@@ -7,7 +7,6 @@ ghost use Rattle.layout.specs.Table.{request as request·side, reply as reply·
 ghost use Rattle.layout.specs.Reading.{read, refused as refused·answer};
 ghost use Rattle.layout.specs.Names.{position, step as step·at};
 ghost use Rattle.layout.specs.Writing.{bit};
-ghost use Rattle.layout.specs.Front.{typeOf};
 ghost use Rattle.field.specs.Values.{attributesValues, statisticsValues};
 ghost use Rattle.request_reader.specs.Answers as asked;
 ghost use Rattle.reply_reader.specs.Answers as replied;
@@ -34,9 +33,7 @@ const FAILURE: u32 = 3;
 
 const SUCCESS: u32 = 4;
 
-// Where the type of a message stands, and where the first name of a readdir reply does.
-const TYPE_PLACE: usize = 4;
-
+// Where the first name of a readdir reply stands.
 const FIRST_NAME: u64 = 13;
 
 // A request read. No message needs a check beforehand.
@@ -45,7 +42,7 @@ pub extern "C" fn tushalets_read_request(message: &[u8]) -> TushaletsReading
     ensures { λ r. ⌜ r ≡ readingOf (read request·side (now (message .entry))) ⌝ }
 {
     let answer = request_reader::read_request(message);
-    let type_number = type_of(message);
+    let type_number = field::type_of(message);
     request_reading(answer, type_number)
 }
 
@@ -55,7 +52,7 @@ pub extern "C" fn tushalets_read_reply(message: &[u8]) -> TushaletsReading
     ensures { λ r. ⌜ r ≡ readingOf (read reply·side (now (message .entry))) ⌝ }
 {
     let answer = reply_reader::read_reply(message);
-    let type_number = type_of(message);
+    let type_number = field::type_of(message);
     reply_reading(answer, type_number)
 }
 
@@ -84,17 +81,8 @@ pub extern "C" fn tushalets_next_name(message: &[u8], at: usize, left: u32) -> T
     }
 }
 
-// The type of a message, 0 where it has none.
-fn type_of(message: &[u8]) -> u8
-    ensures { λ r. ⌜ r ≡ typeOf (now (message .entry)) ⌝ }
-{
-    if message.len() <= TYPE_PLACE {
-        return 0;
-    }
-    message[TYPE_PLACE]
-}
-
-fn refused(number: u8, place: usize) -> TushaletsReading
+// The reading of a refusal.
+pub fn refused(number: u8, place: usize) -> TushaletsReading
     ensures { λ r. ⌜ r ≡ readingOf (refused·answer number place) ⌝ }
 {
     TushaletsReading {
@@ -207,7 +195,7 @@ fn request_cells(request: Request) -> [u64; 17]
 // ---- replies
 
 // The reading of a reply that was answered so and has this type.
-fn reply_reading(answer: ReplyAnswer, type_number: u8) -> TushaletsReading
+pub fn reply_reading(answer: ReplyAnswer, type_number: u8) -> TushaletsReading
     ensures { λ r. ⌜ ((m : List ℕ) → r ≡ readingOf (typed «type_number» (replied.answerOf m answer))) ⌝ }
 {
     match answer {

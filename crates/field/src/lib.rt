@@ -6,6 +6,7 @@ ghost use mathlib.Core.List.{[], _∷_};
 ghost use Rattle.layout.specs.Kinds.{u8 as kind·u8, i8 as kind·i8, u32 as kind·u32, i32 as kind·i32, u64 as kind·u64, bool as kind·bool, num, string, bytes, strings, kinds, attributes, statistics};
 ghost use Rattle.layout.specs.Values.{number as natural, signed, truth, run as run·of, runs};
 ghost use Rattle.layout.specs.Reading.{numAt, runAt};
+ghost use Rattle.layout.specs.Front.{typeOf};
 ghost use Rattle.field.specs.Cursors.{Ended, Took, Reads, validBy, partOf, shown};
 ghost use Rattle.field.specs.Values.{attributesValues, statisticsValues, namesFrom};
 use number::ReadU8;
@@ -402,6 +403,19 @@ pub fn names_at(m: &[u8], c: Cursor) -> NamesField
         },
         next: Cursor { code: 0, at },
     }
+}
+
+// Where the type of a message stands.
+const TYPE_PLACE: usize = 4;
+
+// The type of a message, 0 where it has none.
+pub fn type_of(m: &[u8]) -> u8
+    ensures { λ r. ⌜ r ≡ typeOf (now (m .entry)) ⌝ }
+{
+    if m.len() <= TYPE_PLACE {
+        return 0;
+    }
+    m[TYPE_PLACE]
 }
 
 // The bytes of a run as a part of the message; none where the run does not lie inside it.

@@ -1,7 +1,9 @@
-// Runs what a host cannot call, on the cases of op `s` of second/FORMAT.md: the parts that an answer shows by their own functions,
-// the names iterator as a struct, a request written again by one call, names collected. A line for each case.
+// Runs what a host cannot call, on the cases of the ops `s` and `o` of second/FORMAT.md: the parts that an answer shows by their own
+// functions, the names iterator as a struct, a request written again by one call, names collected; and the table of outstanding
+// requests in lent records. A line for each case.
 mod cases;
 mod print;
+mod table;
 
 use field::Names;
 use names::Position;
@@ -12,8 +14,10 @@ use reply_reader::ReplyAnswer;
 use request_reader::RequestAnswer;
 use writer::Written;
 
-// The op of a case, and the side of a request.
+// The ops of a case, and the side of a request.
 const SHOWN: u8 = b's';
+
+const CALLED: u8 = b'o';
 
 const REQUEST: u8 = 0;
 
@@ -40,19 +44,27 @@ fn answer_all(body: &mut [u8], out: &mut [u8], lengths: &mut [u32]) {
 fn answer_next(body: &mut [u8], out: &mut [u8], lengths: &mut [u32]) -> bool {
     let head = cases::read_head();
     let len = head.len;
-    if head.op != SHOWN {
+    if (head.op != SHOWN) & (head.op != CALLED) {
         return false;
     }
     if !cases::read_body(cases::part_mut(body, len), len) {
         return false;
     }
-    answer(cases::part(body, len), out, lengths);
+    answer(head.op, cases::part(body, len), out, lengths);
     print::put(b"\n");
     true
 }
 
+fn answer(op: u8, body: &[u8], out: &mut [u8], lengths: &mut [u32]) {
+    if op == CALLED {
+        table::answer(body);
+        return;
+    }
+    show(body, out, lengths);
+}
+
 // A body is the side, the room of the lent buffer, and the message.
-fn answer(body: &[u8], out: &mut [u8], lengths: &mut [u32]) {
+fn show(body: &[u8], out: &mut [u8], lengths: &mut [u32]) {
     let side = field::u8_at(body, cases::start());
     let room = field::u32_at(body, side.next);
     let next = room.next;

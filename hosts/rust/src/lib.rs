@@ -23,13 +23,15 @@
 //!
 //! [`check_version`] comes before any other call, once at start: a library of another version must not be called. A
 //! provider gives each message to [`front`], and reads with [`read_request`] what it hands on; a service reads with
-//! [`read_reply`].
+//! [`read_reply`]. A service that has several requests under way keeps them in [`Outstanding`], which reads a reply too
+//! and takes it where one of them asked for it.
 //!
-//! # Document 01
+//! # Documents 01 and 02
 //!
 //! Document 01, which these pages refer to, is the customer's document of rules for the protocol: the table of methods
 //! and their fields, the numbers of refusal, the front. It decides. How a reading shows the fields of each message is
-//! the table of cells in `hosts/c/tushalets.h`.
+//! the table of cells in `hosts/c/tushalets.h`. The table of outstanding requests, with refusals of its own, is item 5
+//! of document 02, the customer's change requests.
 //!
 //! # Building
 //!
@@ -47,6 +49,7 @@ compile_error!("the proved code is compiled for x86-64 Linux alone");
 mod cells;
 mod names;
 pub mod numbers;
+mod outstanding;
 #[allow(unsafe_code)]
 pub mod raw;
 mod refusal;
@@ -55,6 +58,7 @@ mod request;
 mod structures;
 
 pub use names::{NameRun, Names};
+pub use outstanding::Outstanding;
 pub use refusal::Refusal;
 pub use reply::{read_reply, write_reply, Reply, Success};
 pub use request::{read_request, write_request, Request};
@@ -72,6 +76,9 @@ pub const LONGEST: usize = 65_536;
 
 /// A buffer of this length holds every listing.
 pub const LONGEST_LISTING: usize = 256;
+
+/// The records of a table of outstanding requests.
+pub const RECORDS: usize = 64;
 
 /// The linked library is of another version than this crate.
 #[derive(Clone, Copy, Debug, PartialEq, Eq)]

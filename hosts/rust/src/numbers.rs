@@ -1,4 +1,4 @@
-//! The numbers of document 01 and of the exported functions, by name.
+//! The numbers of documents 01 and 02 and of the exported functions, by name.
 
 /// The type of a message.
 pub mod types {
@@ -89,7 +89,7 @@ pub mod refusals {
     pub const TRUNCATED_HEADER: u8 = 1;
     /// More than 65,536 bytes, read or to be written (over-long).
     pub const OVERSIZE: u8 = 2;
-    /// A type that such a message cannot have (stray).
+    /// A type that such a message cannot have (stray), or that no request can be entered with.
     pub const UNEXPECTED_TYPE: u8 = 3;
     /// A number, or a run of declared length, does not fit (short).
     pub const TRUNCATED: u8 = 4;
@@ -103,4 +103,15 @@ pub mod refusals {
     pub const RESULT_SIGN: u8 = 8;
     /// The lengths of names do not sum to their run (list).
     pub const LENGTHS_MISMATCH: u8 = 9;
+    /// A request with this id is outstanding already.
+    pub const ID_OUTSTANDING: u8 = 10;
+    /// Every record of the table holds a request.
+    pub const TABLE_FULL: u8 = 11;
+    /// A reply to an id that is not outstanding.
+    pub const ID_NOT_OUTSTANDING: u8 = 12;
+    /// A reply of a type that does not answer the request.
+    pub const TYPE_MISMATCH: u8 = 13;
+    /// No table of outstanding requests: not 64 records, a word that is no record, an id that is held twice, or a held
+    /// type of 0x80 or above.
+    pub const UNSOUND_TABLE: u8 = 20;
 }

@@ -3,8 +3,8 @@
 //! The typed functions of the crate are made of these, and most programs need only those. These are for a program that
 //! keeps numbers, or that writes text it has as bytes. Every function takes every input. What each promises is stated
 //! and proved in the Rattle sources, `crates/exports*`. Which cells of a [`Reading`] show which field of a message is
-//! in the table of cells in `hosts/c/tushalets.h`. As everywhere in the crate, [`check_version`](crate::check_version)
-//! comes before any other call.
+//! in the table of cells in `hosts/c/tushalets.h`; how a word holds a record of a table of outstanding requests is
+//! there too. As everywhere in the crate, [`check_version`](crate::check_version) comes before any other call.
 //!
 //! ```
 //! use tushalets::{numbers::{shapes, types}, raw};
@@ -86,11 +86,26 @@ pub struct Fronted {
     pub place: usize,
 }
 
+/// What a look at a table of outstanding requests found.
+#[repr(C)]
+#[derive(Clone, Copy, Debug, PartialEq, Eq)]
+pub struct Looked {
+    /// 0; or the number of a refusal, and all else is 0.
+    pub number: u32,
+    /// 1 where the id is outstanding, 0 where it is not.
+    pub held: u32,
+    /// The type of the request with this id; 0 where it is not outstanding.
+    pub type_number: u32,
+    /// How many requests are outstanding.
+    pub count: usize,
+}
+
 // The sizes and the place of the array that the compiled code has.
 const _: () = assert!(size_of::<Reading>() == 168 && offset_of!(Reading, fields) == 32);
 const _: () = assert!(size_of::<Name>() == 32 && offset_of!(Name, at) == 24);
 const _: () = assert!(size_of::<Written>() == 24 && offset_of!(Written, place) == 16);
 const _: () = assert!(size_of::<Fronted>() == 24 && offset_of!(Fronted, place) == 16);
+const _: () = assert!(size_of::<Looked>() == 24 && offset_of!(Looked, count) == 16);
 
 extern "C" {
     fn tushalets_version() -> u32;
@@ -126,12 +141,16 @@ extern "C" {
     ) -> Written;
     fn tushalets_write_failure(id: u32, type_number: u8, code: i32, out: *mut u8, out_len: usize) -> Written;
     fn tushalets_write_unknown_response(id: u32, out: *mut u8, out_len: usize) -> Written;
+    fn tushalets_empty(records: *mut u64, records_len: usize) -> u32;
+    fn tushalets_enter(records: *mut u64, records_len: usize, id: u32, type_number: u8) -> u32;
+    fn tushalets_arrive(records: *mut u64, records_len: usize, message: *const u8, message_len: usize) -> Reading;
+    fn tushalets_look(records: *const u64, records_len: usize, id: u32) -> Looked;
 }
 
 // What a caller owes the exported functions, and how slices meet it: a slice is not null, also of length 0, is aligned,
-// and is valid for its length; nothing writes to a `&` slice meanwhile; `out` is `&mut` and so overlaps nothing. No
-// function has a `requires`, so every value is allowed. None keeps a pointer. The laws that are cited are in
-// crates/exports/proofs/SoundHolds.antt.
+// and is valid for its length; nothing writes to a `&` slice meanwhile; what is written, `out` or `records`, is `&mut`
+// and so overlaps nothing. No function has a `requires`, so every value is allowed. None keeps a pointer. The laws that
+// are cited are in crates/exports/proofs/SoundHolds.antt, where no other file is named.
 //
 // All this holds where the linked library is that of these declarations. A library of another version than `VERSION`
 // must not be called, but for `tushalets_version`: its functions may take and return something else, and no call sees
@@ -247,8 +266,48 @@ pub fn write_unknown_response(id: u32, out: &mut [u8]) -> Written {
     unsafe { tushalets_write_unknown_response(id, out.as_mut_ptr(), out.len()) }
 }
 
-/// A message that a reader accepted, and its reading. Both are private and only `request` and `reply` make one, so they
-/// belong together, and no cell that is asked for can give a text that is none.
+/// Frees every record of a table of outstanding requests, whatever its words were. Answers 0, or
+/// [`UNSOUND_TABLE`](crate::numbers::refusals::UNSOUND_TABLE) where there are not [`RECORDS`](crate::RECORDS) records;
+/// then no word has changed.
+#[inline]
+pub fn empty(records: &mut [u64]) -> u32 {
+    // SAFETY: `records` is valid for its length and `&mut`; no `requires`.
+    unsafe { tushalets_empty(records.as_mut_ptr(), records.len()) }
+}
+
+/// Enters a request into the first free record. Answers 0, or the number of a refusal, which changes no word. A table
+/// that is not sound is refused before all else, as [`UNSOUND_TABLE`](crate::numbers::refusals::UNSOUND_TABLE). Then
+/// follow, in this order, [`UNEXPECTED_TYPE`](crate::numbers::refusals::UNEXPECTED_TYPE) for a type of 0x80 or above,
+/// [`ID_OUTSTANDING`](crate::numbers::refusals::ID_OUTSTANDING) and
+/// [`TABLE_FULL`](crate::numbers::refusals::TABLE_FULL).
+#[inline]
+pub fn enter(records: &mut [u64], id: u32, type_number: u8) -> u32 {
+    // SAFETY: `records` is valid for its length and `&mut`; no `requires`, so every word is allowed.
+    unsafe { tushalets_enter(records.as_mut_ptr(), records.len(), id, type_number) }
+}
+
+/// Reads a reply and frees the record of its request. The answer is [`read_reply`]'s, or a refusal, which changes no
+/// word. A table that is not sound is refused before all else, as
+/// [`UNSOUND_TABLE`](crate::numbers::refusals::UNSOUND_TABLE). Then follow, in this order, the reader's refusals with
+/// their places, [`ID_NOT_OUTSTANDING`](crate::numbers::refusals::ID_NOT_OUTSTANDING) and
+/// [`TYPE_MISMATCH`](crate::numbers::refusals::TYPE_MISMATCH).
+#[inline]
+pub fn arrive(records: &mut [u64], message: &[u8]) -> Reading {
+    // SAFETY: both are valid for their lengths; `records` is `&mut` and so overlaps nothing; no `requires`, so every
+    // word is allowed.
+    unsafe { tushalets_arrive(records.as_mut_ptr(), records.len(), message.as_ptr(), message.len()) }
+}
+
+/// How many requests are outstanding, and whether and with which type this id is. Refused as
+/// [`UNSOUND_TABLE`](crate::numbers::refusals::UNSOUND_TABLE) where the table is not sound.
+#[inline]
+pub fn look(records: &[u64], id: u32) -> Looked {
+    // SAFETY: `records` is valid for its length; no `requires`, so every word is allowed.
+    unsafe { tushalets_look(records.as_ptr(), records.len(), id) }
+}
+
+/// A message that a reader accepted, and its reading. Both are private and only `request`, `reply` and `arrived` make
+/// one, so they belong together, and no cell that is asked for can give a text that is none.
 #[derive(Clone, Copy)]
 pub(crate) struct Accepted<'a> {
     message: &'a [u8],
@@ -266,6 +325,14 @@ impl<'a> Accepted<'a> {
     #[inline]
     pub(crate) fn reply(message: &'a [u8]) -> Result<Self, Refusal> {
         Accepted { message, reading: read_reply(message) }.unless_refused()
+    }
+
+    /// A reply that arrived at a table of outstanding requests. It leans on the contract of `tushalets_arrive` and on
+    /// the law `arrive-whole` (crates/outstanding/proofs/Laws.antt): what is answered is all that the reply reader
+    /// answers. So the cells are those of `read_reply`, and all that is said of a reply holds of it.
+    #[inline]
+    pub(crate) fn arrived(records: &mut [u64], message: &'a [u8]) -> Result<Self, Refusal> {
+        Accepted { message, reading: arrive(records, message) }.unless_refused()
     }
 
     #[inline]
@@ -499,6 +566,18 @@ mod tests {
         }
         assert_eq!(request(&WRITE_REQUEST).data(0), [0x80]);
         assert_eq!(reply(&READ_REPLY).data(1), [0x80]);
+    }
+
+    /// The reading of a reply that arrived is the reader's: the unsafe code above leans on it.
+    #[test]
+    fn an_arrived_reply_is_read_as_any() {
+        for message in [&READ_REPLY[..], &READDIR_REPLY, &READDIR_FAILURE] {
+            let mut records = [0; crate::RECORDS];
+            assert_eq!(enter(&mut records, 1, message[4] - types::REPLY), 0);
+            let arrived = Accepted::arrived(&mut records, message).expect("a reply to an outstanding request");
+            assert_eq!((arrived.message, arrived.reading), (message, reply(message).reading));
+            assert_eq!(records, [0; crate::RECORDS]);
+        }
     }
 
     #[test]

@@ -2,7 +2,8 @@ use crate::numbers::refusals;
 use core::error::Error;
 use core::fmt;
 
-/// Why a message was not read or not written: document 01's number of refusal, and its place in the message.
+/// Why a message was not read or not written, or a table of outstanding requests not changed: the number of refusal in
+/// documents 01 and 02, and its place in the message.
 ///
 /// ```
 /// use tushalets::numbers::refusals;
@@ -16,9 +17,9 @@ use core::fmt;
 /// ```
 #[derive(Clone, Copy, Debug, PartialEq, Eq, Hash)]
 pub struct Refusal {
-    /// 1 to 9; [`refusals`] has their names.
+    /// 1 to 9 of messages, 10 to 13 and 20 of a table; [`refusals`] has their names.
     pub number: u8,
-    /// Where in the message; 0 of a writer.
+    /// Where in the message; 0 of a writer and of a table.
     pub place: usize,
 }
 
@@ -35,6 +36,11 @@ impl Refusal {
             refusals::BUFFER_TOO_SMALL => "buffer too small",
             refusals::RESULT_SIGN => "result sign",
             refusals::LENGTHS_MISMATCH => "lengths mismatch",
+            refusals::ID_OUTSTANDING => "id outstanding",
+            refusals::TABLE_FULL => "table full",
+            refusals::ID_NOT_OUTSTANDING => "id not outstanding",
+            refusals::TYPE_MISMATCH => "type mismatch",
+            refusals::UNSOUND_TABLE => "unsound table",
             _ => "no refusal",
         }
     }

@@ -187,8 +187,13 @@ impl<'a, N> Reply<'a, N> {
 /// ```
 #[inline]
 pub fn read_reply(message: &[u8]) -> Result<Received<Reply<'_>>, Refusal> {
-    let accepted = Accepted::reply(message)?;
-    Ok(Received { id: accepted.id(), known: accepted.known(), body: body(&accepted) })
+    Accepted::reply(message).map(|accepted| received(&accepted))
+}
+
+/// The reply that a reader accepted.
+#[inline]
+pub(crate) fn received<'a>(accepted: &Accepted<'a>) -> Received<Reply<'a>> {
+    Received { id: accepted.id(), known: accepted.known(), body: body(accepted) }
 }
 
 /// The reply that the cells show.

@@ -1,5 +1,9 @@
 //! The proved text check and the one of `core` end at the same place.
 
+mod random;
+
+use random::Random;
+
 /// The first and last byte of each range in the list of well-formed text, and their neighbours.
 const EDGES: [u8; 24] = [
     0x00, 0x7f, 0x80, 0x8f, 0x90, 0x9f, 0xa0, 0xbf, 0xc0, 0xc1, 0xc2, 0xdf, 0xe0, 0xe1, 0xec, 0xed, 0xee, 0xef, 0xf0,
@@ -30,27 +34,15 @@ fn every_sequence_of_up_to_three_edges() {
     }
 }
 
-/// Marsaglia's xorshift: the same sequence for the same seed.
-struct Random(u64);
-
-impl Random {
-    fn below(&mut self, bound: u64) -> u64 {
-        self.0 ^= self.0 << 13;
-        self.0 ^= self.0 >> 7;
-        self.0 ^= self.0 << 17;
-        (self.0 >> 16) % bound
-    }
-
-    /// A whole character, an edge or any byte: the characters let well-formed beginnings grow long.
-    fn append(&mut self, text: &mut Vec<u8>) {
-        match self.below(8) {
-            0 => text.push(EDGES[self.below(EDGES.len() as u64) as usize]),
-            1 => text.push(self.below(0x100) as u8),
-            _ => {
-                let limit = [0x80, 0x800, 0x1_0000, 0x11_0000][self.below(4) as usize];
-                let character = char::from_u32(self.below(limit) as u32).unwrap_or(char::REPLACEMENT_CHARACTER);
-                text.extend_from_slice(character.encode_utf8(&mut [0; 4]).as_bytes());
-            }
+/// A whole character, an edge or any byte: the characters let well-formed beginnings grow long.
+fn append(random: &mut Random, text: &mut Vec<u8>) {
+    match random.below(8) {
+        0 => text.push(EDGES[random.below(EDGES.len() as u64) as usize]),
+        1 => text.push(random.below(0x100) as u8),
+        _ => {
+            let limit = [0x80, 0x800, 0x1_0000, 0x11_0000][random.below(4) as usize];
+            let character = char::from_u32(random.below(limit) as u32).unwrap_or(char::REPLACEMENT_CHARACTER);
+            text.extend_from_slice(character.encode_utf8(&mut [0; 4]).as_bytes());
         }
     }
 }
@@ -62,7 +54,7 @@ fn random_sequences() {
     for _ in 0..RANDOM_SEQUENCES {
         text.clear();
         for _ in 0..random.below(LONGEST_SEQUENCE + 1) {
-            random.append(&mut text);
+            append(&mut random, &mut text);
         }
         compare(&text);
     }

@@ -11,7 +11,7 @@ const LONGEST: usize = 70_000;
 /// The most lengths of a readdir case.
 const MOST_LENGTHS: usize = 16_384;
 
-type Taken<T> = Result<T, String>;
+pub type Taken<T> = Result<T, String>;
 
 /// The value of one field as a case gives it; a text or data is put
 /// together here.
@@ -38,7 +38,11 @@ impl<'a> Body<'a> {
         Body { left: bytes }
     }
 
-    fn take(&mut self, length: usize) -> Taken<&'a [u8]> {
+    pub fn is_empty(&self) -> bool {
+        self.left.is_empty()
+    }
+
+    pub fn take(&mut self, length: usize) -> Taken<&'a [u8]> {
         if length > self.left.len() {
             return Err("the body ends early".to_string());
         }
@@ -49,6 +53,10 @@ impl<'a> Body<'a> {
 
     pub fn u8(&mut self) -> Taken<u8> {
         Ok(self.take(1)?[0])
+    }
+
+    pub fn u16(&mut self) -> Taken<u16> {
+        Ok(u16::from(self.u8()?) << 8 | u16::from(self.u8()?))
     }
 
     pub fn u32(&mut self) -> Taken<u32> {
@@ -96,7 +104,7 @@ impl<'a> Body<'a> {
         Ok(filled(prefix, whole, fill))
     }
 
-    /// The message of an `s` case: the rest of the body as it is.
+    /// The message of an `s` or `o` case: the rest of the body as it is.
     pub fn shown_message(&mut self) -> Taken<&'a [u8]> {
         let length = self.left.len();
         if length > LONGEST_SHOWN {
@@ -138,7 +146,7 @@ impl<'a> Body<'a> {
 
     /// Nothing may be left over.
     pub fn end(&self) -> Taken<()> {
-        if self.left.is_empty() {
+        if self.is_empty() {
             Ok(())
         } else {
             Err(format!("{} bytes too many in the body", self.left.len()))

@@ -4,6 +4,7 @@ mod again;
 mod body;
 mod read;
 mod shown;
+pub mod table;
 mod write;
 
 use std::io::{self, Read, Write};
@@ -16,7 +17,8 @@ use body::Body;
 /// The longest body of a case.
 pub const LONGEST_BODY: usize = 200_000;
 
-/// The longest message and the largest buffer of an `s` case.
+/// The longest message of an `s` or `o` case, and the largest buffer of an `s`
+/// case.
 pub const LONGEST_SHOWN: usize = 1_024;
 
 /// The answer line of one case, without its line end. A case that does not
@@ -37,6 +39,8 @@ pub fn answer(op: u8, body: &[u8]) -> Result<String, String> {
         b'e' => write::unknown_response(&mut body)?,
         b'g' => again::line(&mut body)?,
         b's' => shown::line(&mut body)?,
+        b't' => table::calls_line(&mut body)?,
+        b'o' => table::call_line(&mut body)?,
         _ => return Err(format!("no such op: {op}")),
     };
     body.end()?;

@@ -21,7 +21,7 @@ pub fn request_line(message: &[u8]) -> String {
 
 pub fn reply_line(message: &[u8]) -> String {
     let parts = REPLY_PARTS.map(|name| reply_part(message, name));
-    reply_text(message) + &parts_text(&parts) + &names_text(message)
+    reply_text(&read_reply(message)) + &parts_text(&parts) + &names_text(message)
 }
 
 fn request_text(message: &[u8]) -> String {
@@ -39,20 +39,20 @@ pub fn refusal_line(refusal: Refusal) -> String {
     format!("refused {} at {}", refusal.number, refusal.place)
 }
 
-fn reply_text(message: &[u8]) -> String {
-    match read_reply(message) {
+pub fn reply_text(reply: &Reply) -> String {
+    match reply {
         Reply::Success { id, method, result, values, known } => {
-            let fields = fields_text(method.reply, &values);
+            let fields = fields_text(method.reply, values);
             format!("success {id} {} {result} {known}{fields}", method.name)
         }
         Reply::Failure { id, kind, result, known } => {
             format!("failure {id} {kind} {result} {known}")
         }
         Reply::Credentials { id, creds, known } => {
-            format!("credentials {id} {known} creds={}", part_text(&creds))
+            format!("credentials {id} {known} creds={}", part_text(creds))
         }
         Reply::UnknownResponse { id, known } => format!("unknown-response {id} {known}"),
-        Reply::Refused(refusal) => refusal_line(refusal),
+        Reply::Refused(refusal) => refusal_line(*refusal),
     }
 }
 

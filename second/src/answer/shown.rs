@@ -37,8 +37,7 @@ fn request_line(message: &[u8], mut buffer: Vec<u8>) -> String {
 }
 
 fn reply_line(message: &[u8], run: Vec<u8>) -> String {
-    let parts = REPLY_PARTS.map(|name| reply_part(message, name));
-    let mut line = format!("reply{}", sizes_text(&parts));
+    let mut line = format!("reply{}", reply_sizes(message));
     for name in Names::open(message) {
         line += &format!(" name={}", part_text(&name));
     }
@@ -49,6 +48,11 @@ fn reply_line(message: &[u8], run: Vec<u8>) -> String {
         }
         _ => line,
     }
+}
+
+/// Length and checksum of each part of a reply.
+pub fn reply_sizes(message: &[u8]) -> String {
+    sizes_text(&REPLY_PARTS.map(|name| reply_part(message, name)))
 }
 
 /// Length and checksum of each part.

@@ -33,11 +33,11 @@ pub struct Case {
 }
 
 impl Case {
-    fn new(op: u8) -> Case {
+    pub(super) fn new(op: u8) -> Case {
         Case { op, body: Vec::new() }
     }
 
-    fn number(mut self, width: usize, number: u64) -> Case {
+    pub(super) fn number(mut self, width: usize, number: u64) -> Case {
         push(&mut self.body, width, number);
         self
     }
@@ -52,7 +52,7 @@ impl Case {
         Case::new(op).number(4, room as u64).number(4, u64::from(id))
     }
 
-    fn bytes(mut self, bytes: &[u8]) -> Case {
+    pub(super) fn bytes(mut self, bytes: &[u8]) -> Case {
         self.body.extend_from_slice(bytes);
         self
     }
@@ -63,7 +63,7 @@ impl Case {
             .bytes(&message.prefix)
     }
 
-    fn run(mut self, run: &Filled) -> Case {
+    pub(super) fn run(mut self, run: &Filled) -> Case {
         push_filled(&mut self.body, run);
         self
     }

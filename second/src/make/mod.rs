@@ -1,6 +1,8 @@
 //! Makes framed cases: first a fixed list, then random ones by seed.
 
+mod call;
 pub mod case;
+mod list_call;
 mod list_cuts;
 mod list_front;
 mod list_lengths;
@@ -12,6 +14,10 @@ mod list_rows;
 mod list_shown_names;
 mod list_shown_replies;
 mod list_shown_requests;
+mod list_table_enter;
+mod list_table_refused;
+mod list_table_reply;
+mod list_table_sound;
 mod list_text;
 mod list_types;
 mod list_write_names;
@@ -21,10 +27,13 @@ mod prng;
 mod put;
 mod random;
 mod random_messages;
+mod random_replies;
 mod random_shown;
+mod random_table;
 mod random_values;
 mod random_writers;
 mod styles;
+mod tables;
 
 use std::collections::HashSet;
 
@@ -48,24 +57,37 @@ pub fn fixed_list(ops: &str) -> Vec<Case> {
     list_write_replies::add(&mut out);
     list_write_names::add(&mut out);
     list_front::add(&mut out);
+    list_table_sound::add(&mut out);
+    list_table_enter::add(&mut out);
+    list_table_reply::add(&mut out);
+    list_table_refused::add(&mut out);
     list_shown_requests::add(&mut out);
     list_shown_replies::add(&mut out);
     list_shown_names::add(&mut out);
+    list_call::add(&mut out);
     let mut met = HashSet::new();
     out.retain(|case| ops.contains(char::from(case.op)) && met.insert(case.framed()));
     out
 }
 
 /// The ops of a run that names none.
-pub const OPS: &str = "qplfwurdxceg";
+pub const OPS: &str = "qplfwurdxcegt";
 
-/// The op that a run has only where it is named.
-pub const SHOWN_OP: char = 's';
+/// The ops that a run has only where they are named.
+pub const NAMED_OPS: &str = "so";
 
 /// Some ops, and no other letter.
 pub fn known_ops(ops: &str) -> bool {
-    !ops.is_empty() && ops.chars().all(|op| op == SHOWN_OP || OPS.contains(op))
+    !ops.is_empty() && ops.chars().all(|op| NAMED_OPS.contains(op) || OPS.contains(op))
 }
+
+type Maker = fn(&mut Prng) -> Case;
+
+/// The ops with a maker of their own, and how many of a hundred cases it makes
+/// where the op is asked for. A run that does not ask for the op has the same
+/// cases as without the maker.
+const OWN_MAKERS: [(char, usize, Maker); 3] =
+    [('s', 50, random_shown::case), ('o', 50, random_table::one), ('t', 10, random_table::several)];
 
 /// The cases of one run, without end, of some ops.
 pub struct Cases {
@@ -96,8 +118,10 @@ impl Cases {
 
     /// A case that follows from the seed, of any op.
     fn random(&mut self) -> Case {
-        if self.ops.contains(SHOWN_OP) && self.prng.chance(50) {
-            return random_shown::case(&mut self.prng);
+        for (op, share, make) in OWN_MAKERS {
+            if self.ops.contains(op) && self.prng.chance(share) {
+                return make(&mut self.prng);
+            }
         }
         random::case(&mut self.prng)
     }

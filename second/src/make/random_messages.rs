@@ -14,7 +14,13 @@ pub fn message(prng: &mut Prng, side: Side) -> Filled {
     if prng.chance(1) {
         return long(prng, side);
     }
-    let mut draft = draft(prng, side);
+    let draft = draft(prng, side);
+    damaged(prng, draft)
+}
+
+/// The message of a draft with changes in it, or with bytes behind it; some
+/// stay as they are.
+pub fn damaged(prng: &mut Prng, mut draft: Draft) -> Filled {
     // Many names are mostly left whole, or hardly one such list is accepted.
     let spared = draft.lengths.len() > 5 && prng.chance(70);
     let changes = if spared { 0 } else { prng.pick(&[0, 0, 0, 1, 1, 1, 2, 3]) };
@@ -37,6 +43,11 @@ fn draft(prng: &mut Prng, side: Side) -> Draft {
         return request_draft(method, id, &puts);
     }
     let method = reply_method(prng);
+    reply(prng, method, id)
+}
+
+/// A reply to a request of this method, with results of all kinds.
+pub fn reply(prng: &mut Prng, method: &Method, id: u32) -> Draft {
     let puts = puts(prng, method.reply, BAD);
     let wanted = if prng.chance(60) {
         good_result(method, &puts)

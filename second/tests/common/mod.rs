@@ -1,6 +1,9 @@
 //! What the tests share. Each test file uses a part of it.
 #![allow(dead_code)]
 
+pub mod records;
+pub mod tables;
+
 use second::filled::filled;
 use second::hash::hash;
 use second::hex::from_hex;
@@ -50,6 +53,11 @@ pub fn reply_known(message: &[u8]) -> Option<usize> {
 pub fn message_at(body: &[u8], at: usize) -> Vec<u8> {
     let whole = u32::from_be_bytes(body[at..at + 4].try_into().unwrap()) as usize;
     filled(&body[at + 5..], whole, body[at + 4])
+}
+
+/// The whole message as the cases of most ops have it.
+pub fn framed(message: &[u8]) -> Vec<u8> {
+    [&(message.len() as u32).to_be_bytes()[..], &[0], message].concat()
 }
 
 /// The line with its parts, made from the fields that it shows.

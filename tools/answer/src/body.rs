@@ -28,9 +28,13 @@ impl<'a> Body<'a> {
         Body { left: bytes }
     }
 
+    pub fn is_empty(&self) -> bool {
+        self.left.is_empty()
+    }
+
     /// Nothing is left.
     pub fn end(&self) -> Result<(), Malformed> {
-        if self.left.is_empty() {
+        if self.is_empty() {
             return Ok(());
         }
         Err(Malformed("bytes behind the body"))
@@ -54,6 +58,10 @@ impl<'a> Body<'a> {
 
     pub fn i8(&mut self) -> Result<i8, Malformed> {
         self.array().map(i8::from_be_bytes)
+    }
+
+    pub fn u16(&mut self) -> Result<u16, Malformed> {
+        self.array().map(u16::from_be_bytes)
     }
 
     pub fn u32(&mut self) -> Result<u32, Malformed> {

@@ -16,6 +16,7 @@ mod names;
 mod outcome;
 mod reading;
 mod shown;
+mod table;
 mod writing;
 
 use body::{Body, Malformed};
@@ -102,6 +103,7 @@ fn answer(op: u8, bytes: &[u8]) -> Result<String, Malformed> {
         b'c' => writing::show_getcreds(&mut body)?,
         b'e' => writing::show_unknown_response(&mut body)?,
         b'g' => again::show(&mut body)?,
+        b't' => table::show(&mut body)?,
         _ => return Err(Malformed("an op that is not known")),
     };
     body.end()?;

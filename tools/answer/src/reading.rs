@@ -36,6 +36,12 @@ pub fn show_reply(message: &[u8]) -> String {
         + &names.map_or_else(|| names::show_none(message), |names| names::show(message, names))
 }
 
+/// A reply that was accepted, without its parts and names.
+pub fn show_received(message: &[u8], received: &Received<Reply<'_>>) -> String {
+    let (line, fields) = begin_reply(received);
+    line + &fields::show(message, &fields)
+}
+
 pub fn show_refusal(refusal: Refusal) -> String {
     format!("refused {} at {}", refusal.number, refusal.place)
 }

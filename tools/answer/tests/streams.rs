@@ -28,7 +28,7 @@ fn assert_malformed(input: &[u8], message: &str) {
 
 #[test]
 fn an_op_that_is_not_known() {
-    for op in [b's', b'Q', 0] {
+    for op in [b's', b'o', b'Q', 0] {
         assert_malformed(&case(op, &[]), "an op that is not known");
     }
 }
@@ -51,6 +51,12 @@ fn a_body_of_another_length() {
         (b'w', "00000005 00000001 02 | 00000002 00 00000002 2f"),
         (b'd', "00000005 00000001 00000000 | 00000000 00 00000000 | 00000001"),
         (b'e', "00000005 000001"),
+        (b't', "00"),
+        (b't', "0001"),
+        (b't', "0001 01 00000001"),
+        (b't', "0000 | 6e 00000001"),
+        (b't', "0000 | 61 00000002 00 00000002 2f"),
+        (b't', "0000 | 6b 000001"),
     ] {
         assert_malformed(&case(op, &bytes(body)), SHORT);
     }
@@ -73,6 +79,10 @@ fn a_value_that_no_case_has() {
         (b'w', "00000005 00000001 0a | 00000000 00 00000000 02 0000000000000000", "a bool that is neither 0 nor 1"),
         (b'd', "00000005 00000001 00000000 | 00000000 00 00000000 | 00004001", "a count above the greatest"),
         (b'g', "02 00000005 00000000 00", "a side that is neither 0 nor 1"),
+        (b't', "00c9", "a count above the greatest"),
+        (b't', "0001 02", "a record that is neither free nor held"),
+        (b't', "0000 | 65 45", "a call that is not known"),
+        (b't', "0000 | 61 00011171 00 00000000", LENGTH),
     ];
     for (op, body, message) in rows {
         assert_malformed(&case(op, &bytes(body)), message);

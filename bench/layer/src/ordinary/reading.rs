@@ -4,7 +4,7 @@ use tushalets::numbers::{refusals, types};
 use tushalets::{Attributes, Received, Refusal, Reply, Request, Statistics, Success, Timestamp, LONGEST};
 
 /// Where the type of a message stands, and where the result of a reply does.
-const TYPE_PLACE: usize = 4;
+pub const TYPE_PLACE: usize = 4;
 const RESULT_PLACE: usize = 5;
 
 /// What is left of a message. A field is taken from its start.
