@@ -27,7 +27,7 @@ const BYTE: u64 = 0x100;
 
 // ---- a record and its word
 
-// It is read as the record again.
+// The word of a record, which is read as the record again.
 pub fn word_of(r: Record) -> u64
     ensures { λ w. ⌜ (w ≡ wordOf r) × (recordOf w ≡ r) ⌝ }
 {
