@@ -8,6 +8,8 @@ use std::process::ExitCode;
 use second::answer::answer_all;
 use second::make::{known_ops, Cases, OPS};
 
+const USAGE: &str = "usage: second make SEED COUNT [OPS] | second answer";
+
 fn main() -> ExitCode {
     let arguments: Vec<String> = env::args().skip(1).collect();
     let words: Vec<&str> = arguments.iter().map(String::as_str).collect();
@@ -22,6 +24,10 @@ fn main() -> ExitCode {
         ["answer"] => {
             let input = BufReader::with_capacity(1 << 16, io::stdin().lock());
             answer_all(input, BufWriter::new(io::stdout().lock()))
+        }
+        ["-h" | "--help"] => {
+            println!("{USAGE}");
+            return ExitCode::SUCCESS;
         }
         _ => return usage(),
     };
@@ -43,6 +49,6 @@ fn make(seed: u64, count: usize, ops: &str) -> io::Result<()> {
 }
 
 fn usage() -> ExitCode {
-    eprintln!("usage: second make SEED COUNT [OPS] | second answer");
+    eprintln!("{USAGE}");
     ExitCode::from(2)
 }

@@ -31,6 +31,7 @@ pub fn front(request: &[u8], out: &mut [u8]) -> Fronted
 }
 
 // A request that the reader refused. An oversize one is answered as unknown, whatever its type.
+// Asks that `number` is the reader's refusal of this request: `front` passes it on.
 fn answer_refused(request: &[u8], number: u8, out: &mut [u8]) -> Fronted
     requires { ⌜ RefusedWith (now request) number ⌝ }
     ensures { λ r. ⌜ Fronts (layout·front (now (request .entry)) (now (out .entry))) (now (out .exit)) r ⌝ }
@@ -53,6 +54,7 @@ struct Header {
     kind: u8,
 }
 
+// Asks for five bytes: `answer_refused` has refused a shorter request.
 fn header_of(request: &[u8]) -> Header
     requires { ⌜ 5 ≤ length (now request) ⌝ }
     ensures { λ r. ⌜ (r .id ≡ idOf (now (request .entry))) × (r .kind ≡ typeOf (now (request .entry))) ⌝ }
@@ -75,6 +77,7 @@ fn answer_unknown(id: u32, out: &mut [u8]) -> Fronted
 }
 
 // The failure of the request's own method with EINVAL.
+// Asks for a type of 1 to 22: no other request is refused for its fields.
 fn answer_invalid(id: u32, kind: u8, out: &mut [u8]) -> Fronted
     requires { ⌜ (1 ≤ kind) × (kind ≤ 22) ⌝ }
     ensures { λ r. ⌜ Fronts (settle (reply-with (invalidReply id kind)) (now (out .entry))) (now (out .exit)) r ⌝ }

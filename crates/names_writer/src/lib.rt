@@ -53,6 +53,7 @@ fn sums_to(lengths: &[u32], total: usize) -> bool
 
 // The reply, its lengths known to sum to the run. Four times the length of a slice of u32 is a number of bytes, which does not
 // wrap, and `admit` tests each summand of the size before it adds.
+// Asks for that sum: `write_readdir` has tested it.
 fn write_summed(id: u32, result: i32, names: &[u8], lengths: &[u32], out: &mut [u8]) -> Written
     requires { ⌜ sum (now lengths) ≡ length (now names) ⌝ }
     ensures { λ r. ⌜ Wrote (storeNames id result (split (now (lengths .entry)) (now (names .entry))) (now (out .entry))) (now (out .exit)) r ⌝ }
@@ -68,6 +69,7 @@ fn write_summed(id: u32, result: i32, names: &[u8], lengths: &[u32], out: &mut [
 }
 
 // Each name by itself is well-formed text.
+// Asks that the lengths sum to the run, as `write_summed` does.
 fn are_texts(names: &[u8], lengths: &[u32]) -> bool
     requires { ⌜ sum (now lengths) ≡ length (now names) ⌝ }
     ensures { λ r. ⌜ r ≡ allWellFormed (split (now (lengths .entry)) (now (names .entry))) ⌝ }
@@ -87,6 +89,7 @@ fn are_texts(names: &[u8], lengths: &[u32]) -> bool
 }
 
 // Each name: its length, then its bytes.
+// Asks that the lengths sum to the run, as `write_summed` does.
 fn put_names(out: &mut [u8], c: Cursor, names: &[u8], lengths: &[u32]) -> Cursor
     requires { ⌜ sum (now lengths) ≡ length (now names) ⌝ }
     ensures { λ r. ⌜ Puts (now (out .entry)) c (namePieces (split (now (lengths .entry)) (now (names .entry)))) (now (out .exit)) r ⌝ }
@@ -154,6 +157,7 @@ fn count_names(m: &[u8], names: Names, room: usize, most: usize) -> Collected
 }
 
 // Copies the names. There is room for them.
+// Asks for that room: `count_names` has tested it.
 fn copy_names(m: &[u8], names: Names, run: &mut [u8], lengths: &mut [u32])
     requires { ⌜ RoomFor (sizes (namesIn (now m) names)) (buffers (now run) (now lengths)) ⌝ }
     ensures { λ _. ⌜ Copies (now (m .entry)) (namesIn (now (m .entry)) names) (buffers (now (run .entry)) (now (lengths .entry))) (buffers (now (run .exit)) (now (lengths .exit))) ⌝ }

@@ -62,6 +62,7 @@ pub fn read_u64(s: &[u8], at: usize) -> ReadU64
     ReadU64::Whole(load_u64(s, at))
 }
 
+// Asks that the 4 bytes from `at` lie inside `s`: `read_u32` has tested it.
 fn load_u32(s: &[u8], at: usize) -> u32
     requires { ⌜ at + 4 ≤ length (now s) ⌝ }
     ensures { λ r. ⌜ r ≡ be (take 4 (drop at (now (s .entry)))) ⌝ }
@@ -69,6 +70,7 @@ fn load_u32(s: &[u8], at: usize) -> u32
     join4(s[at], s[at + 1], s[at + 2], s[at + 3])
 }
 
+// Asks that the 8 bytes from `at` lie inside `s`: `read_u64` has tested it.
 fn load_u64(s: &[u8], at: usize) -> u64
     requires { ⌜ at + 8 ≤ length (now s) ⌝ }
     ensures { λ r. ⌜ r ≡ be (take 8 (drop at (now (s .entry)))) ⌝ }

@@ -141,6 +141,7 @@ fn read_getcreds(m: &[u8], c: Cursor, id: u32) -> ReplyAnswer
 }
 
 // The result, and where it is not negative the fields.
+// Asks for a type that has a result: `read_body` has answered every other.
 fn read_result(m: &[u8], c: Cursor, id: u32, kind: u8) -> ReplyAnswer
     requires { ⌜ (0x81 ≤ kind) × (kind ≤ 0x96) ⌝ }
     ensures { λ r. ⌜ answerOf (now (m .entry)) r ≡ answerAt (now (m .entry)) c id kind ⌝ }
@@ -168,6 +169,7 @@ fn read_result(m: &[u8], c: Cursor, id: u32, kind: u8) -> ReplyAnswer
 }
 
 // The fields behind a result that is not negative.
+// Asks for a type that has a result, and for one that is not negative: `read_result` has answered every other.
 fn read_success(m: &[u8], c: Cursor, id: u32, kind: u8, result: u32) -> ReplyAnswer
     requires { ⌜ (0x81 ≤ kind) × (kind ≤ 0x96) × (result < 0x8000_0000) ⌝ }
     ensures { λ r. ⌜ answerOf (now (m .entry)) r ≡ successAt (now (m .entry)) c id kind (pos result) ⌝ }
@@ -203,6 +205,7 @@ fn read_success(m: &[u8], c: Cursor, id: u32, kind: u8, result: u32) -> ReplyAns
 }
 
 // The answer by the cursor behind the last field.
+// Asks for a result that is not negative, as each of its callers does.
 fn finish(m: &[u8], id: u32, result: u32, reply: Reply, c: Cursor) -> ReplyAnswer
     requires { ⌜ result < 0x8000_0000 ⌝ }
     ensures { λ r. ⌜ Finished (now (m .entry)) id result reply c (answerOf (now (m .entry)) r) ⌝ }
@@ -224,6 +227,7 @@ fn finish(m: &[u8], id: u32, result: u32, reply: Reply, c: Cursor) -> ReplyAnswe
     }
 }
 
+// Asks for a result that is not negative, as `read_success` does.
 fn read_getattr(m: &[u8], c: Cursor, id: u32, result: u32) -> ReplyAnswer
     requires { ⌜ result < 0x8000_0000 ⌝ }
     ensures { λ r. ⌜ answerOf (now (m .entry)) r ≡ successAt (now (m .entry)) c id (replyNumber Getattr) (pos result) ⌝ }
@@ -239,6 +243,7 @@ fn read_getattr(m: &[u8], c: Cursor, id: u32, result: u32) -> ReplyAnswer
     )
 }
 
+// Asks for a result that is not negative, as `read_success` does.
 fn read_readlink(m: &[u8], c: Cursor, id: u32, result: u32) -> ReplyAnswer
     requires { ⌜ result < 0x8000_0000 ⌝ }
     ensures { λ r. ⌜ answerOf (now (m .entry)) r ≡ successAt (now (m .entry)) c id (replyNumber Readlink) (pos result) ⌝ }
@@ -254,6 +259,7 @@ fn read_readlink(m: &[u8], c: Cursor, id: u32, result: u32) -> ReplyAnswer
     )
 }
 
+// Asks for a result that is not negative, as `read_success` does.
 fn read_open(m: &[u8], c: Cursor, id: u32, result: u32) -> ReplyAnswer
     requires { ⌜ result < 0x8000_0000 ⌝ }
     ensures { λ r. ⌜ answerOf (now (m .entry)) r ≡ successAt (now (m .entry)) c id (replyNumber Open) (pos result) ⌝ }
@@ -270,6 +276,7 @@ fn read_open(m: &[u8], c: Cursor, id: u32, result: u32) -> ReplyAnswer
     )
 }
 
+// Asks for a result that is not negative, as `read_success` does.
 fn read_create(m: &[u8], c: Cursor, id: u32, result: u32) -> ReplyAnswer
     requires { ⌜ result < 0x8000_0000 ⌝ }
     ensures { λ r. ⌜ answerOf (now (m .entry)) r ≡ successAt (now (m .entry)) c id (replyNumber Create) (pos result) ⌝ }
@@ -286,6 +293,7 @@ fn read_create(m: &[u8], c: Cursor, id: u32, result: u32) -> ReplyAnswer
     )
 }
 
+// Asks for a result that is not negative, as `read_success` does.
 fn read_read(m: &[u8], c: Cursor, id: u32, result: u32) -> ReplyAnswer
     requires { ⌜ result < 0x8000_0000 ⌝ }
     ensures { λ r. ⌜ answerOf (now (m .entry)) r ≡ successAt (now (m .entry)) c id (replyNumber Read) (pos result) ⌝ }
@@ -296,6 +304,7 @@ fn read_read(m: &[u8], c: Cursor, id: u32, result: u32) -> ReplyAnswer
     finish(m, id, result, Reply::Read { data: run }, next)
 }
 
+// Asks for a result that is not negative, as `read_success` does.
 fn read_readdir(m: &[u8], c: Cursor, id: u32, result: u32) -> ReplyAnswer
     requires { ⌜ result < 0x8000_0000 ⌝ }
     ensures { λ r. ⌜ answerOf (now (m .entry)) r ≡ successAt (now (m .entry)) c id (replyNumber Readdir) (pos result) ⌝ }
@@ -305,6 +314,7 @@ fn read_readdir(m: &[u8], c: Cursor, id: u32, result: u32) -> ReplyAnswer
     finish(m, id, result, Reply::Readdir { names: value }, names.next)
 }
 
+// Asks for a result that is not negative, as `read_success` does.
 fn read_statfs(m: &[u8], c: Cursor, id: u32, result: u32) -> ReplyAnswer
     requires { ⌜ result < 0x8000_0000 ⌝ }
     ensures { λ r. ⌜ answerOf (now (m .entry)) r ≡ successAt (now (m .entry)) c id (replyNumber Statfs) (pos result) ⌝ }

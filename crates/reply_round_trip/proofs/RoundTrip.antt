@@ -26,14 +26,9 @@ use Rattle.writer.specs.Writers.{Wrote}
 use Rattle.writer.proofs.RoundTrip.{finished, Rewritten, again}
 use Rattle.reply_reader.specs.declared.ReplyAnswer.{ReplyAnswer}
 use Rattle.reply_reader.specs.Answers.{answerOf}
+use Rattle.reply_round_trip.specs.RoundTrip.{ReadAs, knownPart}
 
 -- ---- what a writer finished, the reader accepts with the same values
-
--- the answer a to l has this shape, id and type, n bytes are known, and its values say vs
-pub record ReadAs (l : List ℕ) (s : Shape) (i t : ℕ) (vs : List (Value (List ℕ))) (n : ℕ) (a : ReplyAnswer) : Type 0 where
-  pub values : List (Value Part)
-  pub is : answerOf l a ≡ accepted s i t values n
-  pub says : contents l values ≡ vs
 
 pub reply-back : (s : Shape) (i t : ℕ) (vs : List (Value (List ℕ))) (summed : Bool) (out : List ℕ) {after : List ℕ} {n : ℕ} {a : ReplyAnswer} → i < 256 ^ 4
     → t < 256 → AllFit (kindsOf (plan reply t) s) vs → Wrote (write reply s i t vs summed out) after (Stored n)
@@ -69,7 +64,7 @@ no-bool t s = failure-free (plan reply t) s (go (eqb t unknownResponse) (ofReply
 
 pub reply-again : (m : List ℕ) (s : Shape) (i t k : ℕ) (vs : List (Value Part)) (a : ReplyAnswer) (out : List ℕ) {after : List ℕ} {r : Written} → Bytes m
     → answerOf m a ≡ read reply m → answerOf m a ≡ accepted s i t vs k → k ≤ length out
-    → Wrote (write reply s i t (map (shownIn m) vs) true out) after r → Rewritten (take k m) out k after r
+    → Wrote (write reply s i t (map (shownIn m) vs) true out) after r → Rewritten (knownPart k m) out k after r
 reply-again m s i t k vs a out {after} {r} by reads is room w =
     let e : read reply m ≡ accepted s i t vs k = sym reads ∙ is in
     let w′ : Wrote (write reply s i t (contents m vs) true out) after r =

@@ -25,6 +25,7 @@ use writer::Written;
 
 // Where a success is stored from: the start of a buffer of `len` bytes, or the first refusal in document 01's order. `run` is the
 // length of its text or data, 0 where it has none, and `fields` is the size of all else behind the result.
+// Asks that `fields` is at most 128, so that the sum does not wrap: no method has more than 88.
 fn admit(result: i32, texts: bool, counted: bool, run: usize, fields: usize, len: usize) -> Cursor
     requires { ⌜ fields ≤ 128 ⌝ }
     ensures { λ r. ⌜ r ≡ allowed result texts counted (run + 0 + (9 + fields)) len ⌝ }
@@ -50,6 +51,7 @@ fn put_result(out: &mut [u8], c: Cursor, id: u32, kind: u8, result: i32) -> Curs
 }
 
 // The header and the result of a success without text or data, if it passes the checks.
+// Asks that `fields` is at most 128, as `admit` does: no method has more than 88.
 fn start(out: &mut [u8], id: u32, kind: u8, result: i32, fields: usize) -> Cursor
     requires { ⌜ fields ≤ 128 ⌝ }
     ensures { λ r. ⌜ Started true true (9 + fields) (now (out .entry)) id kind result (now (out .exit)) r ⌝ }
@@ -59,6 +61,7 @@ fn start(out: &mut [u8], id: u32, kind: u8, result: i32, fields: usize) -> Curso
 }
 
 // A success that is its result alone.
+// Asks for the type of such a method: each caller gives its own.
 fn write_result(id: u32, kind: u8, result: i32, out: &mut [u8]) -> Written
     requires { ⌜ plan reply kind ≡ led false [] ⌝ }
     ensures { λ r. ⌜ Wrote (write reply success id kind (signed result ∷ []) true (now (out .entry))) (now (out .exit)) r ⌝ }

@@ -19,6 +19,7 @@ use method::Method;
 use writer::Written;
 
 // The header and the path of a request whose numbers take so many bytes, if it passes the checks.
+// Asks for at most 64 bytes of numbers, so that the sum does not wrap: no method has more than 32.
 fn start_path(out: &mut [u8], id: u32, kind: u8, path: &[u8], numbers: usize) -> Cursor
     requires { ⌜ numbers ≤ 64 ⌝ }
     ensures { λ r. ⌜ Started (wellFormed (now (path .entry))) (now (out .entry)) id kind (now (path .entry)) numbers (now (out .exit)) r ⌝ }
@@ -30,6 +31,7 @@ fn start_path(out: &mut [u8], id: u32, kind: u8, path: &[u8], numbers: usize) ->
 }
 
 // The same with data, which is not looked at.
+// Asks for at most 64 bytes of numbers too: the write request has 16.
 fn start_data(out: &mut [u8], id: u32, kind: u8, data: &[u8], numbers: usize) -> Cursor
     requires { ⌜ numbers ≤ 64 ⌝ }
     ensures { λ r. ⌜ Started true (now (out .entry)) id kind (now («data» .entry)) numbers (now (out .exit)) r ⌝ }
@@ -40,6 +42,7 @@ fn start_data(out: &mut [u8], id: u32, kind: u8, data: &[u8], numbers: usize) ->
 }
 
 // The same with two paths.
+// Asks for at most 64 bytes of numbers too: no request with two paths has more than 1.
 fn start_paths(
     out: &mut [u8],
     id: u32,

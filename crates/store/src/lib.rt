@@ -119,6 +119,7 @@ pub fn put_all(out: &mut [u8], c: Cursor, s: &[u8]) -> Cursor
     }
 }
 
+// Asks that `s` fits into `out` from `at` on: `put_all` has tested the room.
 fn copy(out: &mut [u8], at: usize, s: &[u8])
     requires { ⌜ at + length (now s) ≤ length (now out) ⌝ }
     ensures { λ _. ⌜ now (out .exit) ≡ overwritten (now (out .entry)) at (now (s .entry)) ⌝ }

@@ -23,6 +23,7 @@ pub fn well_formed_end(s: &[u8]) -> usize
 
 // The size of the character at `at`, 0 where none begins there. One decision for each entry, in document 01's order: the first
 // byte chooses the entry, and the entry says how many bytes follow and what the second may be.
+// Asks that `at` lies inside `s`: `well_formed_end` has tested it.
 fn character_at(s: &[u8], at: usize) -> usize
     requires { ⌜ at < length (now s) ⌝ }
     ensures { λ r. ⌜ r ≡ character (drop at (now (s .entry))) ⌝ }
@@ -56,6 +57,7 @@ fn character_at(s: &[u8], at: usize) -> usize
 }
 
 // 2 where the byte at `at` is followed by one of lo..hi, else 0.
+// Asks that `at` lies inside `s`, as `character_at` does.
 fn two_bytes(s: &[u8], at: usize, lo: u8, hi: u8) -> usize
     requires { ⌜ at < length (now s) ⌝ }
     ensures { λ r. ⌜ r ≡ cond (begins (lo to hi ∷ []) (drop (at + 1) (now (s .entry)))) 2 0 ⌝ }
@@ -67,6 +69,7 @@ fn two_bytes(s: &[u8], at: usize, lo: u8, hi: u8) -> usize
 }
 
 // 3 where the byte at `at` is followed by one of lo..hi and one of 80..bf, else 0.
+// Asks that `at` lies inside `s`, as `character_at` does.
 fn three_bytes(s: &[u8], at: usize, lo: u8, hi: u8) -> usize
     requires { ⌜ at < length (now s) ⌝ }
     ensures { λ r. ⌜ r ≡ cond (begins (lo to hi ∷ tail ∷ []) (drop (at + 1) (now (s .entry)))) 3 0 ⌝ }
@@ -82,6 +85,7 @@ fn three_bytes(s: &[u8], at: usize, lo: u8, hi: u8) -> usize
 }
 
 // 4 where the byte at `at` is followed by one of lo..hi and two of 80..bf, else 0.
+// Asks that `at` lies inside `s`, as `character_at` does.
 fn four_bytes(s: &[u8], at: usize, lo: u8, hi: u8) -> usize
     requires { ⌜ at < length (now s) ⌝ }
     ensures { λ r. ⌜ r ≡ cond (begins (lo to hi ∷ tail ∷ tail ∷ []) (drop (at + 1) (now (s .entry)))) 4 0 ⌝ }

@@ -190,3 +190,8 @@ fn written(told: raw::Written) -> Result<usize, Refusal> {
         number => Err(Refusal { number: number as u8, place: told.place }),
     }
 }
+
+/// The Rust of the README compiles.
+#[cfg(doctest)]
+#[doc = include_str!("../../../README.md")]
+pub struct Readme;

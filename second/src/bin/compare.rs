@@ -11,9 +11,16 @@ use second::make::{known_ops, OPS};
 /// A program that is silent for so long is given up.
 const LIMIT: Duration = Duration::from_secs(60);
 
+const USAGE: &str = "usage: compare [--fixed] [--ops=OPS] SEED COUNT PROGRAM [ARGUMENT...]";
+
 fn main() -> ExitCode {
-    let Some(plan) = plan(env::args().skip(1).collect()) else {
-        eprintln!("usage: compare [--fixed] [--ops=OPS] SEED COUNT PROGRAM [ARGUMENT...]");
+    let words: Vec<String> = env::args().skip(1).collect();
+    if words == ["-h"] || words == ["--help"] {
+        println!("{USAGE}");
+        return ExitCode::SUCCESS;
+    }
+    let Some(plan) = plan(words) else {
+        eprintln!("{USAGE}");
         return ExitCode::from(FAULT);
     };
     let begin = Instant::now();
