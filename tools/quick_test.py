@@ -54,10 +54,6 @@ class InTree(unittest.TestCase):
         path.write_text(f"#!/bin/sh\n{script}\n")
         path.chmod(0o755)
 
-    def without(self, *exceptions):
-        for name in exceptions:
-            self.enter(mock.patch.object(quick, name, {}))
-
     def faults(self, part):
         """What a part finds, without the places."""
         return [fault.split(": ", 1)[1] for fault in part(self.root)[0]]
@@ -110,7 +106,7 @@ class Edits(InTree):
 class Names(InTree):
     def setUp(self):
         super().setUp()
-        self.without("FROM_OUTSIDE")
+        self.enter(mock.patch.object(quick, "FROM_OUTSIDE", {}))
         self.write("crates/a/src/lib.rt", "pub fn read_one() {}\nconst LIMIT: u8 = 1;\n")
         self.write("crates/a/specs/Table.antt", "row-of m′ = a·b\n")
 
@@ -160,10 +156,6 @@ CONTRACT = "    ensures { λ r. ⌜ r ≡ f {x} ⌝ }\n"
 
 
 class Promises(InTree):
-    def setUp(self):
-        super().setUp()
-        self.without("MAY_ASK", "MAY_PROMISE_NOTHING")
-
     def finds(self, text, *faults):
         self.write("crates/a/src/lib.rt", text)
         self.assertEqual(quick.promises(self.root)[0], [f"crates/a/src/lib.rt:{fault}" for fault in faults])
@@ -180,6 +172,7 @@ class Promises(InTree):
         self.finds(f"\npub fn f(x: u8)\n{asks}{CONTRACT}{{\n}}\n", "2: a::f has a `requires`")
         self.finds(f"pub fn f(x: u8)\n{CONTRACT}{asks}{{\n}}\n", "1: a::f has a `requires`")
         self.finds(f"pub fn f(x: u8)\n{CONTRACT}{{\n}}\nfn g(x: u8)\n{asks}{{\n}}\n")
+        self.finds(f"pub fn f(x: u8)\n{asks}{{\n}}\n", "1: a::f has a `requires`", "1: a::f has no `ensures`")
 
     def test_no_ensures(self):
         self.finds(f"pub fn f() -> S {{\n    S {{}}\n}}\n\npub fn g()\n{CONTRACT}{{}}\n", "1: a::f has no `ensures`")
@@ -189,13 +182,6 @@ class Promises(InTree):
     def test_other_files(self):
         self.write("crates/a/src/b/c.rt", "pub fn f() {}\n")
         self.assertEqual(self.faults(quick.promises), ["a::f has no `ensures`"])
-
-    def test_exceptions(self):
-        self.enter(mock.patch.object(quick, "MAY_ASK", {"a::f": "", "a::g": ""}))
-        self.enter(mock.patch.object(quick, "MAY_PROMISE_NOTHING", {"b": "", "c": ""}))
-        self.write("crates/a/src/lib.rt", f"pub fn f()\n    requires {{ x }}\n{CONTRACT}{{\n}}\npub fn g()\n{CONTRACT}{{\n}}\n")
-        self.write("crates/b/src/main.rt", "pub fn f() {\n}\n")
-        self.assertEqual(self.faults(quick.promises), ["the exception `a::g` is not needed", "the exception `c` is not needed"])
 
 
 class Quotes(InTree):
@@ -322,11 +308,6 @@ class Whole(InTree):
         self.write("tools/quick", "")
         shutil.copy(SCRIPT, self.root / "tools/quick")
         self.write("README.md", "".join(f"`{word}`\n" for word in quick.FROM_OUTSIDE))
-        for function in quick.MAY_ASK:
-            crate, name = function.split("::")
-            self.write(f"crates/{crate}/src/{name}.rt", f"pub fn {name}()\n    requires {{ x }}\n{CONTRACT}{{\n}}\n")
-        for crate in quick.MAY_PROMISE_NOTHING:
-            self.write(f"crates/{crate}/src/main.rt", "pub fn f() {\n}\n")
         for name in "rt", "cargo":
             self.program(name, "exit 0")
 
@@ -345,10 +326,10 @@ class Whole(InTree):
         self.assertEqual(sorted(self.root.glob("[!.]*/**/*")), before)
 
     def test_all_parts_run(self):
-        self.write("crates/number/must-fail/e.edit", "")
+        self.write("crates/a/must-fail/e.edit", "")
         self.program("rt", "exit 1")
         status, lines = self.call()
-        self.assertEqual((status, lines[0], lines[-1]), (1, "crates/number/must-fail/e.edit:1: no pair of `old:` and `new:`", "quick: 2 faults"))
+        self.assertEqual((status, lines[0], lines[-1]), (1, "crates/a/must-fail/e.edit:1: no pair of `old:` and `new:`", "quick: 2 faults"))
         self.assertIn("quick: second: ok (0 tests)", lines)
 
     def test_help(self):

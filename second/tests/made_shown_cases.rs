@@ -6,7 +6,7 @@ use std::collections::BTreeSet;
 use second::answer::{answer, LONGEST_SHOWN};
 use second::make::case::Case;
 use second::make::{fixed_list, Cases};
-use second::methods::METHODS;
+use second::methods::{METHODS, READDIR};
 use second::names::Names;
 use second::reply::{read_reply, Reply};
 use second::request::{read_request, Request};
@@ -17,7 +17,7 @@ const REPLY: u8 = 1;
 const LONGEST_MESSAGE: usize = 300;
 
 /// The committed cases have room for more than the fixed list.
-const MOST_FIXED: usize = 600;
+const MOST_FIXED: usize = 700;
 
 /// A case taken apart, and its answer.
 struct Shown {
@@ -46,7 +46,7 @@ impl Shown {
 
 /// The cases of one side, first of the fixed list, then by a seed.
 fn both(side: u8) -> [Vec<Shown>; 2] {
-    let fresh = Cases::fresh(31, "s").take(4_000).collect();
+    let fresh = Cases::fresh(31, "s").take(12_000).collect();
     [fixed_list("s"), fresh].map(|cases: Vec<Case>| {
         cases.iter().map(Shown::new).filter(|shown| shown.side == side).collect()
     })
@@ -120,6 +120,30 @@ fn requests_of_every_kind() {
     }
 }
 
+/// The same for the replies that have a result: all but that to getcreds.
+#[test]
+fn replies_of_every_method_with_every_room() {
+    for cases in both(REPLY) {
+        let mut found = BTreeSet::new();
+        for shown in &cases {
+            let Reply::Success { method, known, .. } = read_reply(&shown.message) else {
+                continue;
+            };
+            let stored = shown.line.contains(&format!(" stored {known} "));
+            assert_eq!(stored, shown.room >= known, "{}", shown.line);
+            if shown.room == 0 {
+                found.insert((method.number, "none"));
+            } else if shown.room + 1 == known {
+                found.insert((method.number, "one less"));
+            } else if stored {
+                let fit = if shown.room == known { "exact" } else { "larger" };
+                found.insert((method.number, fit));
+            }
+        }
+        assert_eq!(found.len(), 4 * (METHODS.len() - 1));
+    }
+}
+
 #[test]
 fn replies_of_every_kind() {
     for cases in both(REPLY) {
@@ -153,12 +177,19 @@ fn names_with_and_without_room() {
         let mut collected = BTreeSet::new();
         let mut without = BTreeSet::new();
         for shown in &cases {
+            let Reply::Success { method, .. } = read_reply(&shown.message) else {
+                continue;
+            };
+            if method.number != READDIR {
+                continue;
+            }
             let (count, sum) = shown.names();
             let fits = shown.room.cmp(&sum);
             if shown.line.contains(" end collected ") {
                 assert!(count <= 16 && fits.is_ge());
                 collected.insert((count, fits));
-            } else if shown.line.contains(" end no-room ") {
+            } else {
+                assert!(shown.line.contains(" end refused 7 at 0 "));
                 assert!(count > 16 || fits.is_lt());
                 without.insert((count, fits));
             }

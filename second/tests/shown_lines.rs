@@ -80,14 +80,22 @@ fn other_requests_show_nothing() {
     }
 }
 
+/// The checksums of buffers of no byte to three, as they were: 3, 10, 17.
+const BUFFERS: [u32; 4] = [0, 4, 1_039, 267_041];
+
 #[test]
 fn parts_of_replies() {
-    assert_eq!(reply(9, "00000001 83 00000000 00000001 61"), "reply 1:98 0:0 0:0 end");
-    assert_eq!(reply(9, "00000001 90 00000001 00000001 61"), "reply 0:0 1:98 0:0 end");
+    let parts = |message: &str| {
+        let line = reply(0, message);
+        line.strip_suffix(" refused 7 at 0 0").unwrap().to_string()
+    };
+    assert_eq!(parts("00000001 83 00000000 00000001 61"), "reply 1:98 0:0 0:0 end");
+    assert_eq!(parts("00000001 90 00000001 00000001 61"), "reply 0:0 1:98 0:0 end");
+    assert_eq!(parts("00000001 81 00000000"), format!("{NONE_OF_REPLY} end"));
+    // A reply that has no result is not written again.
     assert_eq!(reply(9, "00000001 97 00000001 61"), "reply 0:0 0:0 1:98 end");
     let none = [
         "",
-        "00000001 81 00000000",
         "00000001 80 00000000 00000001 61",
         // A failure with the text behind it, and another result than the data.
         "00000001 83 ffffffff 00000001 61",
@@ -106,16 +114,46 @@ fn names_are_copied() {
     let names = "00000001 93 00000005 00000002 00000001 61 00000000 ff";
     let shown = format!("{NONE_OF_REPLY} name=17:1:98 name=22:0:0 end");
     // The lengths begin with 1 and 0; the third is still 17.
-    assert_eq!(reply(1, names), format!("{shown} collected 2 1 98 3559410421"));
+    let again = |room: u32| format!("refused 7 at 0 {}", BUFFERS[room as usize]);
+    let collected = "collected 2 1 98 3559410421";
+    assert_eq!(reply(1, names), format!("{shown} {collected} {}", again(1)));
     // Byte 1 of the run is still 10.
-    assert_eq!(reply(2, names), format!("{shown} collected 2 1 25197 3559410421"));
-    assert_eq!(reply(0, names), format!("{shown} no-room 0 {UNTOUCHED}"));
+    let collected = "collected 2 1 25197 3559410421";
+    assert_eq!(reply(2, names), format!("{shown} {collected} {}", again(2)));
+    assert_eq!(reply(0, names), format!("{shown} refused 7 at 0 0 {UNTOUCHED} {}", again(0)));
     let accents = "00000002 93 00000000 00000003 00000000 00000002 c3a9 00000001 78";
     let shown = format!("{NONE_OF_REPLY} name=17:0:0 name=21:2:50542 name=27:1:121 end");
-    assert_eq!(reply(3, accents), format!("{shown} collected 3 3 12989415 2154097242"));
-    assert_eq!(reply(2, accents), format!("{shown} no-room 1039 {UNTOUCHED}"));
+    let collected = "collected 3 3 12989415 2154097242";
+    assert_eq!(reply(3, accents), format!("{shown} {collected} {}", again(3)));
+    assert_eq!(reply(2, accents), format!("{shown} refused 7 at 0 1039 {UNTOUCHED} {}", again(2)));
     let empty = "00000001 93 00000000 00000000";
-    assert_eq!(reply(0, empty), format!("{NONE_OF_REPLY} end collected 0 0 0 {UNTOUCHED}"));
+    let collected = format!("collected 0 0 0 {UNTOUCHED}");
+    assert_eq!(reply(0, empty), format!("{NONE_OF_REPLY} end {collected} {}", again(0)));
+}
+
+#[test]
+fn replies_written_again() {
+    let again = |room: u32, message: &str| {
+        let line = reply(room, message);
+        let at = line.rfind(" stored ").or_else(|| line.rfind(" refused ")).unwrap();
+        line[at + 1..].to_string()
+    };
+    let access = "00000001 81 00000007";
+    let hashed = hash(&from_hex(access));
+    assert_eq!(again(9, access), format!("stored 9 {hashed} 0"));
+    // Byte 9 of the buffer is 66.
+    assert_eq!(again(10, access), format!("stored 9 {hashed} 67"));
+    assert_eq!(again(8, access), format!("refused 7 at 0 {}", hash(&filled(8))));
+    // The bytes behind the last name are not written again.
+    let names = "00000001 93 00000005 00000002 00000001 61 00000000";
+    let hashed = hash(&from_hex(names));
+    assert_eq!(again(22, &format!("{names} ff")), format!("stored 22 {hashed} 0"));
+    assert_eq!(again(21, names), format!("refused 7 at 0 {}", hash(&filled(21))));
+}
+
+/// What a lent buffer holds before a call.
+fn filled(len: usize) -> Vec<u8> {
+    (0..len).map(|index| ((index % 251 * 7 + 3) % 251) as u8).collect()
 }
 
 #[test]
@@ -127,9 +165,10 @@ fn sixteen_lengths_have_room() {
         let line = line(REPLY, room, &message);
         line.split_once(" end ").unwrap().1.to_string()
     };
-    assert_eq!(named(16, 0), format!("collected 16 0 0 {}", hash(&[0; 64])));
-    assert_eq!(named(17, 0), format!("no-room 0 {UNTOUCHED}"));
-    assert_eq!(named(17, 1), format!("no-room 4 {UNTOUCHED}"));
+    let again = |room: usize| format!("refused 7 at 0 {}", BUFFERS[room]);
+    assert_eq!(named(16, 0), format!("collected 16 0 0 {} {}", hash(&[0; 64]), again(0)));
+    assert_eq!(named(17, 0), format!("refused 7 at 0 0 {UNTOUCHED} {}", again(0)));
+    assert_eq!(named(17, 1), format!("refused 7 at 0 4 {UNTOUCHED} {}", again(1)));
 }
 
 #[test]
@@ -173,7 +212,8 @@ fn requests_agree_with_reading_and_writing_again() {
 fn replies_agree_with_reading() {
     let cases = Cases::of(22, "s").filter(|case| case.body[0] == REPLY);
     for case in cases.take(2_000) {
-        let read = answer(b'p', &framed(&case.body[5..])).unwrap();
+        let message = framed(&case.body[5..]);
+        let read = answer(b'p', &message).unwrap();
         let mut wanted = "reply".to_string();
         for name in ["resolved", "data", "creds"] {
             wanted += &format!(" {}", size(&read, name));
@@ -184,7 +224,12 @@ fn replies_agree_with_reading() {
         wanted += " end";
         let line = answer(b's', &case.body).unwrap();
         let behind = line.strip_prefix(&wanted).unwrap();
-        let readdir = read.starts_with("success ") && read.contains(" readdir ");
-        assert_eq!(readdir, !behind.is_empty(), "{line}");
+        if !read.starts_with("success ") {
+            assert_eq!(behind, "", "{line}");
+            continue;
+        }
+        let again = answer(b'g', &[&case.body[..5], &message].concat()).unwrap();
+        let collected = behind.strip_suffix(&format!(" {again}")).unwrap();
+        assert_eq!(read.contains(" readdir "), !collected.is_empty(), "{line}");
     }
 }

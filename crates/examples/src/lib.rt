@@ -2,12 +2,9 @@
 ghost use mathlib.Core.Path.{_≡_};
 ghost use Rattle.layout.specs.Writing.{lengthOf};
 ghost use Rattle.writer.specs.Writers.{toldOf};
-ghost use Rattle.names.specs.Positions.{positionOf, stepOf, behind as behind·step};
 ghost use Rattle.examples.specs.Turns.{RestKept};
 ghost use Rattle.examples.specs.Longest.{greater as greater·of, longestName};
 use front::Fronted;
-use names::Position;
-use names::Step;
 use request_reader::Request;
 use request_reader::RequestAnswer;
 use writer::Written;
@@ -68,20 +65,10 @@ pub fn longest_name(message: &[u8]) -> usize
         let step = names_iterator::step_from(message, position);
         let name = names::name(message, step);
         longest = greater(longest, name.len());
-        position = behind(step);
+        position = names::behind(step);
         left -= 1;
     }
     longest
-}
-
-// The position behind a step; at the end it stays.
-fn behind(step: Step) -> Position
-    ensures { λ r. ⌜ positionOf r ≡ behind·step (stepOf step) ⌝ }
-{
-    match step {
-        Step::Name { next, .. } => next,
-        Step::End { position } => position,
-    }
 }
 
 fn greater(a: usize, b: usize) -> usize

@@ -1,69 +1,36 @@
--- Laws for hosts: every writer and the front are isolated. Assumes nothing.
-use mathlib.Core.Path.{_≡_, refl, sym, ap, _∙_}
-use mathlib.Core.Bool.{Bool, true, false, cond}
-use mathlib.Core.List.{List, [], _++_}
+-- Laws for hosts: every writer and the front are isolated, by the laws of layout. Assumes nothing.
+use mathlib.Core.Path.{_≡_, refl}
+use mathlib.Core.Bool.{Bool}
+use mathlib.Core.List.{List}
 use Prim.Native.Nat.{ℕ}
-use lib.Dec.{leb}
 use lib.IntN.{ℤ}
-use lib.ListN.{length, take, drop}
-use lib.Seq.{take-at, drop-at}
-use Rattle.layout.specs.Limits.{oversize, unexpectedType, malformedText, dataLengthMismatch, bufferTooSmall, resultSign, lengthsMismatch, longest}
-use Rattle.layout.specs.Table.{Side, request, reply, plan}
+use Rattle.layout.specs.Table.{Side, request, reply}
 use Rattle.layout.specs.Values.{Value}
-use Rattle.layout.specs.Reading.{Shape, known, success, read}
-use Rattle.layout.specs.Pieces.{kindsOf}
-use Rattle.layout.specs.Writing.{Written, encodeMessage, hasShape, signRight, textsRight, countRight, refuse as refuse-write, check, store, storeChecked, write}
-use Rattle.layout.specs.Front.{Call, hand-on, refuse, reply-with, called, stored, refused, done, settle, front}
+use Rattle.layout.specs.Reading.{Shape, known, success}
+use Rattle.layout.specs.Writing.{Written, Told, stored, refused, lengthOf, write}
+use Rattle.layout.specs.Front.{Act, handed-on, stored as act-stored, refused as act-refused, front}
+use Rattle.layout.specs.Isolation.{actLength, WriterIsolated as WriterIsolated·layout}
+use Rattle.layout.proofs.Isolating as layout
+use Rattle.exports.specs.Shown.{writtenOf, frontedOf}
 use Rattle.exports.specs.Given.{requestBy, successBy}
-use Rattle.exports.specs.Isolation.{Isolated, WriterIsolated, FrontIsolated}
+use Rattle.exports.specs.Isolation.{WriterIsolated, FrontIsolated}
 
--- the bytes e in front of what stays where they fit, else the buffer as it was; told by the one answer or the other
-placed : {W A : Type 0} (answer : W → A) (reported : A → ℕ) (buffer : W → List ℕ) (e : List ℕ) (fits lacks : List ℕ → W) (y n : A)
-    → ((a : List ℕ) → answer (fits a) ≡ y) → ((a : List ℕ) → answer (lacks a) ≡ n)
-    → ((a : List ℕ) → buffer (fits a) ≡ e ++ drop (length e) a) → ((a : List ℕ) → buffer (lacks a) ≡ a) → reported y ≡ length e → reported n ≡ 0
-    → Isolated answer reported buffer (λ a. cond (leb (length e) (length a)) (fits a) (lacks a))
-placed {W} {A} answer reported buffer e fits lacks y n ay an by bn ry rn =
-    record {
-      answers = λ a b h. told a (leb (length e) (length a)) ∙ ap (λ (k : ℕ). cond (leb (length e) k) y n) h ∙ sym (told b (leb (length e) (length b)));
-      same = λ a b h. front-of a (leb (length e) (length a)) ∙ ap (λ (k : ℕ). cond (leb (length e) k) e []) h ∙ sym (front-of b (leb (length e) (length b)));
-      rest = λ a. behind a (leb (length e) (length a));
-    }
-  where
-    told : (a : List ℕ) (t : Bool) → answer (cond t (fits a) (lacks a)) ≡ cond t y n
-    told a true = ay a
-    told a false = an a
+told-length : (x : Told) → writtenOf x .len ≡ lengthOf x
+told-length (stored n) = refl
+told-length (refused n p) = refl
 
-    front-of : (a : List ℕ) (t : Bool) → take (reported (answer (cond t (fits a) (lacks a)))) (buffer (cond t (fits a) (lacks a))) ≡ cond t e []
-    front-of a true = rw (ay a, by a, ry) (take-at e (drop (length e) a) (length e) refl)
-    front-of a false = rw (an a, bn a, rn) refl
+act-length : (x : Act) → frontedOf x .len ≡ actLength x
+act-length handed-on = refl
+act-length (act-stored n) = refl
+act-length (act-refused n p) = refl
 
-    behind : (a : List ℕ) (t : Bool) → drop (reported (answer (cond t (fits a) (lacks a)))) (buffer (cond t (fits a) (lacks a)))
-        ≡ drop (reported (answer (cond t (fits a) (lacks a)))) a
-    behind a true = rw (ay a, by a, ry) (drop-at e (drop (length e) a) (length e) refl)
-    behind a false = rw (an a, bn a, rn) refl
-
--- a check that does not look at the buffer
-check-isolated : (c : ℕ) (t : Bool) (w : List ℕ → Written) → WriterIsolated w → WriterIsolated (λ (a : List ℕ). check c t a (w a))
-check-isolated c true w i = i
-check-isolated c false w i = record { answers = λ a b e. refl; same = λ a b e. refl; rest = λ a. refl }
-
--- bytes that are stored where there is room for them
-pub store-isolated : (e : List ℕ) → WriterIsolated (λ (a : List ℕ). check bufferTooSmall (leb (length e) (length a)) a (store e a))
-store-isolated e =
-    placed _ _ _ e (λ a. store e a) (λ a. refuse-write bufferTooSmall a) _ _ (λ a. refl) (λ a. refl) (λ a. refl) (λ a. refl) refl refl
+-- any writer that is isolated, as a host sees it
+pub writer-shown : {w : List ℕ → Written} → WriterIsolated·layout w → WriterIsolated w
+writer-shown i = layout.isolated-told writtenOf (λ r. r .len) told-length i
 
 -- every writer, of requests and of replies
 pub write-isolated : (side : Side) (s : Shape) (i t : ℕ) (vs : List (Value (List ℕ))) (sums : Bool) → WriterIsolated (λ (a : List ℕ). write side s i t vs sums a)
-unfolding write storeChecked
-write-isolated side s i t vs sums =
-    let p = plan side t in
-    let e = encodeMessage side s i t vs in
-    check-isolated unexpectedType (hasShape p s) _
-    (check-isolated resultSign (signRight p s vs) _
-    (check-isolated lengthsMismatch sums _
-    (check-isolated malformedText (textsRight (kindsOf p s) vs) _
-    (check-isolated dataLengthMismatch (countRight p s vs) _
-    (check-isolated oversize (leb (length e) longest) _ (store-isolated e))))))
+write-isolated side s i t vs sums = writer-shown (layout.write-isolated side s i t vs sums)
 
 pub request-isolated : (i t : ℕ) (ns s u : List ℕ) → WriterIsolated (λ (a : List ℕ). requestBy i t ns s u a)
 unfolding requestBy
@@ -74,13 +41,5 @@ unfolding successBy
 success-isolated i t z ns s ls = write-isolated reply success i t _ _
 
 -- the front, on every request
-settle-isolated : (c : Call) → FrontIsolated (λ (a : List ℕ). settle c a)
-settle-isolated hand-on = record { answers = λ a b e. refl; same = λ a b e. refl; rest = λ a. refl }
-settle-isolated (refuse n) = record { answers = λ a b e. refl; same = λ a b e. refl; rest = λ a. refl }
-settle-isolated (reply-with e) =
-    placed _ _ _ e (λ a. done (stored (length e)) (e ++ drop (length e) a)) (λ a. done (refused bufferTooSmall 0) a) _ _
-    (λ a. refl) (λ a. refl) (λ a. refl) (λ a. refl) refl refl
-
 pub front-isolated : (m : List ℕ) → FrontIsolated (λ (a : List ℕ). front m a)
-unfolding front
-front-isolated m = settle-isolated (called m (read request m))
+front-isolated m = layout.isolated-told frontedOf (λ r. r .len) act-length (layout.front-isolated m)

@@ -1,10 +1,11 @@
 -- Law for hosts: the listing of a request is isolated, as every writer is. Assumes nothing.
 use mathlib.Core.List.{List}
 use Prim.Native.Nat.{ℕ}
+use Rattle.layout.proofs.Isolating.{store-isolated}
 use Rattle.listing.specs.Listing.{listing, listed}
 use Rattle.exports.specs.Isolation.{WriterIsolated}
-use Rattle.exports.proofs.Isolating.{store-isolated}
+use Rattle.exports.proofs.Isolating.{writer-shown}
 
 pub listing-isolated : (m : List ℕ) → WriterIsolated (λ (a : List ℕ). listed m a)
 unfolding listed
-listing-isolated m = store-isolated (listing m)
+listing-isolated m = writer-shown (store-isolated (listing m))

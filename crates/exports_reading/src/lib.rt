@@ -253,7 +253,7 @@ fn success_cells(result: u64, reply: Reply) -> [u64; 17]
         Reply::Read { data } => three_cells(result, data.start as u64, data.len as u64),
         Reply::Write => three_cells(result, 0, 0),
         Reply::Mkdir => three_cells(result, 0, 0),
-        Reply::Readdir { names } => three_cells(result, FIRST_NAME, names.count as u64),
+        Reply::Readdir { count } => three_cells(result, FIRST_NAME, count as u64),
         Reply::Rmdir => three_cells(result, 0, 0),
         Reply::Statfs { statistics } => statistics_cells(result, statistics),
         Reply::Utimens => three_cells(result, 0, 0),

@@ -13,7 +13,7 @@ use Rattle.layout.specs.Names.{namesAt}
 use Rattle.layout.proofs.Iterating.{strings-are-names}
 use Rattle.field.specs.declared.Cursor.{Cursor}
 use Rattle.field.specs.Cursors.{outcome, Ended, Took}
-use Rattle.field.proofs.Cursors.{chain, map-ended, stays, at-place}
+use Rattle.field.proofs.Cursors.{chain, map-ended, stays, at-place, refused-there}
 
 -- ---- a string that was read at a place
 
@@ -70,11 +70,15 @@ met-all {m} {n} {start} {left} {at} h z =
 
 -- ---- a count, and the names behind it
 
-module _ {m : List ℕ} {c first : Cursor} {n : ℕ} (h : Ended m c (numAt 4) n first) (xs : List Part) where
+module _ {m : List ℕ} {c first : Cursor} {e n : ℕ} (h : Ended m c (numAt 4) e n first) where
   -- the count was refused
-  pub names-refused : (first .code ≡ 0 → ⊥) → Took m c strings (runs xs) first
-  names-refused z = chain (numAt 4) (λ k. mapped runs (stringsAt k)) h (stays first (mapped runs (stringsAt n)) (runs xs) z)
+  pub count-refused : (first .code ≡ 0 → ⊥) → Took m c strings (runs []) first
+  count-refused z = chain (numAt 4) (λ k. mapped runs (stringsAt k)) h (stays first (mapped runs (stringsAt n)) (runs []) z)
 
-  -- or the names were read, or one of them refused
-  pub names-read : (d : Cursor) → first .code ≡ 0 → stringsAt n m (first .at) ≡ outcome d xs → Took m c strings (runs xs) d
-  names-read d z e = chain (numAt 4) (λ k. mapped runs (stringsAt k)) h (map-ended runs (stringsAt n) (at-place first (stringsAt n) xs d z e))
+  -- or one of the names
+  pub name-refused : (d : Cursor) → first .code ≡ 0 → stringsAt n m (first .at) ≡ outcome d [] → Took m c strings (runs []) d
+  name-refused d z e = chain (numAt 4) (λ k. mapped runs (stringsAt k)) h (map-ended runs (stringsAt n) (refused-there first (stringsAt n) [] d z e))
+
+  -- or all were read
+  pub names-read : (xs : List Part) (p : ℕ) → first .code ≡ 0 → stringsAt n m (first .at) ≡ got xs p → Took m c strings (runs xs) (record { code = 0; at = p })
+  names-read xs p z e = chain (numAt 4) (λ k. mapped runs (stringsAt k)) h (map-ended runs (stringsAt n) (at-place first (stringsAt n) [] xs p z e))

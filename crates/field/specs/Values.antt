@@ -2,12 +2,10 @@
 use Prim.Native.Nat.{ℕ}
 use mathlib.Core.List.{List, [], _∷_, _++_, map}
 use Rattle.layout.specs.Values.{Part, Value, number, signed, truth, run, runs}
-use Rattle.layout.specs.Names.{namesAt}
 use Rattle.field.specs.Cursors.{shown}
 use Rattle.field.specs.declared.Timestamp.{Timestamp}
 use Rattle.field.specs.declared.Attributes.{Attributes}
 use Rattle.field.specs.declared.Statistics.{Statistics}
-use Rattle.field.specs.declared.Names.{Names}
 
 abbrev pub attributesValues : {A : Type 0} → Attributes → List (Value A)
 attributesValues a =
@@ -38,10 +36,6 @@ statisticsValues s =
     ∷ number (s .ffree)
     ∷ number (s .namemax)
     ∷ []
-
--- the names themselves: as many as the count says, from the first on
-abbrev pub namesFrom : List ℕ → Names → List Part
-namesFrom m n = namesAt (n .count) m (n .start)
 
 -- what a value says in s; a text or data that does not lie inside s is empty
 abbrev pub shownIn : List ℕ → Value Part → Value (List ℕ)

@@ -3,12 +3,14 @@
 ghost use mathlib.Core.Path.{_≡_};
 ghost use mathlib.Core.Bool.{true, false};
 ghost use mathlib.Core.List.{[], _∷_};
-ghost use Rattle.layout.specs.Kinds.{u8 as kind·u8, i8 as kind·i8, u32 as kind·u32, i32 as kind·i32, u64 as kind·u64, bool as kind·bool, num, string, bytes, strings, kinds, attributes, statistics};
-ghost use Rattle.layout.specs.Values.{number as natural, signed, truth, run as run·of, runs};
+ghost use Prim.Native.Nat.{_+_};
+ghost use Rattle.layout.specs.Kinds.{u8 as kind·u8, i8 as kind·i8, u32 as kind·u32, i32 as kind·i32, u64 as kind·u64, bool as kind·bool, width, num, string, bytes, strings, kinds, attributes, statistics};
+ghost use Rattle.layout.specs.Values.{part, number as natural, signed, truth, run as run·of, runs};
 ghost use Rattle.layout.specs.Reading.{numAt, runAt};
+ghost use Rattle.layout.specs.Names.{namesAt};
 ghost use Rattle.layout.specs.Front.{typeOf};
-ghost use Rattle.field.specs.Cursors.{Ended, Took, Reads, validBy, partOf, shown};
-ghost use Rattle.field.specs.Values.{attributesValues, statisticsValues, namesFrom};
+ghost use Rattle.field.specs.Cursors.{Ended, Took, Reads, validBy, partOf, Shows};
+ghost use Rattle.field.specs.Values.{attributesValues, statisticsValues};
 use number::ReadU8;
 use number::ReadU32;
 use number::ReadU64;
@@ -55,13 +57,8 @@ pub struct Statistics {
     pub namemax: u64,
 }
 
-// The names of a readdir reply: how many, and where the first begins.
-pub struct Names {
-    pub count: u32,
-    pub start: usize,
-}
-
-// A field of each type: its value, and the cursor behind it.
+// A field of each type: its value, and the cursor behind it. Where that is a refusal, the value is 0, false or empty; of a structure, so are
+// the members from the refused one on.
 pub struct U8Field {
     pub value: u8,
     pub next: Cursor,
@@ -112,14 +109,9 @@ pub struct StatisticsField {
     pub next: Cursor,
 }
 
-pub struct NamesField {
-    pub value: Names,
-    pub next: Cursor,
-}
-
 // A number of 1 byte.
 fn byte_at(m: &[u8], c: Cursor) -> U8Field
-    ensures { λ r. ⌜ Ended (now (m .entry)) c (numAt 1) (r .value) (r .next) ⌝ }
+    ensures { λ r. ⌜ Ended (now (m .entry)) c (numAt 1) 0 (r .value) (r .next) ⌝ }
 {
     let code = c.code;
     let at = c.at;
@@ -144,7 +136,7 @@ fn byte_at(m: &[u8], c: Cursor) -> U8Field
 
 // A number of 4 bytes.
 fn word_at(m: &[u8], c: Cursor) -> U32Field
-    ensures { λ r. ⌜ Ended (now (m .entry)) c (numAt 4) (r .value) (r .next) ⌝ }
+    ensures { λ r. ⌜ Ended (now (m .entry)) c (numAt 4) 0 (r .value) (r .next) ⌝ }
 {
     let code = c.code;
     let at = c.at;
@@ -315,7 +307,7 @@ pub fn statistics_at(m: &[u8], c: Cursor) -> StatisticsField
 // A run of `len` bytes, well-formed where it is text. The comparison is by subtraction: the place and the length are not added
 // before it is known that the run fits.
 fn run_at(m: &[u8], c: Cursor, len: u32, text: bool) -> RunField
-    ensures { λ r. ⌜ Ended (now (m .entry)) c (runAt (validBy text) len) (partOf (r .value)) (r .next) ⌝ }
+    ensures { λ r. ⌜ Ended (now (m .entry)) c (runAt (validBy text) len) (part 0 0) (partOf (r .value)) (r .next) ⌝ }
 {
     let code = c.code;
     let start = c.at;
@@ -344,7 +336,7 @@ fn run_at(m: &[u8], c: Cursor, len: u32, text: bool) -> RunField
 
 // No run, and this refusal.
 fn stopped(c: Cursor) -> RunField
-    ensures { λ r. ⌜ r .next ≡ c ⌝ }
+    ensures { λ r. ⌜ (r .next ≡ c) × (partOf (r .value) ≡ part 0 0) ⌝ }
 {
     RunField {
         value: Run { start: 0, len: 0 },
@@ -366,41 +358,31 @@ pub fn bytes_at(m: &[u8], c: Cursor) -> RunField
     run_at(m, len.next, len.value, false)
 }
 
-// A count, then so many names. The count is not believed: each name is met before the next, and the first that is not there or
-// not well-formed refuses the message.
-pub fn names_at(m: &[u8], c: Cursor) -> NamesField
-    ensures { λ r. ⌜ Took (now (m .entry)) c strings (runs (namesFrom (now (m .entry)) (r .value))) (r .next) ⌝ }
+// A count, then so many names; the value is the count. It is not believed: each name is met before the next, and the first that is
+// not there or not well-formed refuses the message.
+pub fn names_at(m: &[u8], c: Cursor) -> U32Field
+    ensures { λ r. ⌜ Took (now (m .entry)) c strings (runs (namesAt (r .value) (now (m .entry)) (c .at + width kind·u32))) (r .next) ⌝ }
 {
     let count = word_at(m, c);
     let first = count.next;
     let code = first.code;
-    let start = first.at;
+    let mut at = first.at;
     if code != 0 {
-        return NamesField {
-            value: Names { count: 0, start: 0 },
-            next: first,
-        };
+        return count;
     }
-    let mut at = start;
     let mut left = count.value;
     while 0 < left {
         let name = string_at(m, Cursor { code: 0, at });
         let next = name.next;
         let code = next.code;
         if code != 0 {
-            return NamesField {
-                value: Names { count: 0, start: 0 },
-                next,
-            };
+            return U32Field { value: 0, next };
         }
         at = next.at;
         left -= 1;
     }
-    NamesField {
-        value: Names {
-            count: count.value,
-            start,
-        },
+    U32Field {
+        value: count.value,
         next: Cursor { code: 0, at },
     }
 }
@@ -420,7 +402,7 @@ pub fn type_of(m: &[u8]) -> u8
 
 // The bytes of a run as a part of the message; none where the run does not lie inside it.
 pub fn bytes_of<'a>(m: &'a [u8], r: Run) -> &'a [u8]
-    ensures { λ s. ⌜ now s ≡ shown (now (m .entry)) (partOf r) ⌝ }
+    ensures { λ s. ⌜ Shows (m .entry) (partOf r) s ⌝ }
 {
     let start = r.start;
     let len = r.len;

@@ -3,6 +3,7 @@ pub mod Cuts
 pub mod Demand3Holds
 pub mod Fronting
 pub mod Header
+pub mod Isolating
 pub mod Iterating
 pub mod PartsNamed
 pub mod ReadFits

@@ -17,7 +17,7 @@ use Rattle.number.proofs.BigEndian.{length-bytesOf, bytesOf-be, be-below}
 use Rattle.number.proofs.TwosComplement.{bits-signed}
 use Rattle.text.specs.Utf8.{wellFormed}
 use Rattle.layout.specs.Kinds.{Num, u8, i8, u32, i32, u64, bool, width, Kind, num, string, bytes, strings}
-use Rattle.layout.specs.Limits.{longest}
+use Rattle.layout.specs.Limits.{bufferTooSmall, longest}
 use Rattle.layout.specs.Table.{Side, Plan, unexpected, header, asked, plain, led, plan}
 use Rattle.layout.specs.Values.{Part, part, Value, signed, run, runs, runOf, runsOf, bytesIn, content, contents}
 use Rattle.layout.specs.Reading.{anyBytes, valueOf, Shape, unknown, known, failure, success, dataSize, accepted, read}
@@ -75,7 +75,7 @@ module _ {m : List ℕ} (by : Bytes m) where
       one-byte (bit (not (eqb n 0))) (bit-small (not (eqb n 0)))
       ∙ ap (map (λ b. bit (not (eqb b 0)))) (sym (one-byte n (num-below h)) ∙ num-again h)
 
-  sized-again : {valid : List ℕ → Bool} {p : ℕ} {x : Part} → SizedHere valid m p x → sized (bytesIn m x) ≡ take (4 + x .size) (drop p m)
+  pub sized-again : {valid : List ℕ → Bool} {p : ℕ} {x : Part} → SizedHere valid m p x → sized (bytesIn m x) ≡ take (4 + x .size) (drop p m)
   sized-again (sized-here {p = p} {n = n} h r) =
       ap (λ (k : ℕ). bytesOf 4 k ++ take n (drop (p + 4) m)) (part-length (p + 4) n m (r .fits))
       ∙ ap (λ (l : List ℕ). l ++ take n (drop (p + 4) m)) (num-again h)
@@ -259,16 +259,21 @@ module _ {m : List ℕ} where
         length-bytesOf 1 t,
       )
 
--- ---- a writer that is given what was read, and room for it
+-- ---- a writer that is given what was read
+
+-- the known part, where there is room for it
+pub written-checked : (side : Side) (m : List ℕ) {s : Shape} {i t k : ℕ} {vs : List (Value Part)} → read side m ≡ accepted s i t vs k → Bytes m
+    → (out : List ℕ) → write side s i t (contents m vs) true out
+    ≡ check bufferTooSmall (leb k (length out)) out (record { told = stored k; buffer = normalised side s t vs m ++ drop k out })
+unfolding write storeChecked
+written-checked side m {s} {i} {t} {k} {vs} a by out =
+    let h : MessageHere side m s i t vs k = message-traced a in
+    let c = body-checked (h .rest) in
+    let size : length (encodeMessage side s i t (contents m vs)) ≡ k = encoded-size h in
+    let small : k ≤ longest = omega (arith, known-inside h, h .short) in
+    rw (c .shape, c .sign, c .texts, c .count, size, le-leb k longest small, message-again by h)
 
 pub written-again : (side : Side) (m : List ℕ) {s : Shape} {i t k : ℕ} {vs : List (Value Part)} → read side m ≡ accepted s i t vs k → Bytes m
     → (out : List ℕ) → k ≤ length out
     → write side s i t (contents m vs) true out ≡ record { told = stored k; buffer = normalised side s t vs m ++ drop k out }
-unfolding write storeChecked
-written-again side m {s} {i} {t} {k} {vs} a by out l =
-    let h : MessageHere side m s i t vs k = message-traced a in
-    let c = body-checked (h .rest) in
-    let e : List ℕ = encodeMessage side s i t (contents m vs) in
-    let size : length (encodeMessage side s i t (contents m vs)) ≡ k = encoded-size h in
-    let small : k ≤ longest = omega (arith, known-inside h, h .short) in
-    rw (c .shape, c .sign, c .texts, c .count, size, le-leb k longest small, le-leb k (length out) l, message-again by h)
+written-again side m {k = k} a by out l = rw (le-leb k (length out) l) at (written-checked side m a by out)

@@ -180,7 +180,7 @@ module _ {m : List ℕ} where
       let g = passed (valid (take n (drop p m))) (got (part p n) (p + n)) malformedText p (h .1) in
       (record { fits = leb-true (p + n) (length m) (h .0); good = g .0 }, cc (g .1), cc (g .1))
 
-  sized-traced : {valid : List ℕ → Bool} {p : ℕ} {x : Part} {q : ℕ} → sizedAt valid m p ≡ got x q → SizedHere valid m p x × (q ≡ p + 4 + x .size)
+  pub sized-traced : {valid : List ℕ → Bool} {p : ℕ} {x : Part} {q : ℕ} → sizedAt valid m p ≡ got x q → SizedHere valid m p x × (q ≡ p + 4 + x .size)
   sized-traced {valid} {p} {x} {q} e =
       let h = middle (numAt 4 m p) (λ n c. runAt valid n m c) e in
       let a = num-traced (h .first) in

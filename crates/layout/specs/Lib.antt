@@ -1,5 +1,6 @@
 pub mod Demand3
 pub mod Front
+pub mod Isolation
 pub mod Kinds
 pub mod Limits
 pub mod Names

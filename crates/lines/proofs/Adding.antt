@@ -1,61 +1,65 @@
--- Laws of adding text at a cursor. Assumes nothing.
-use mathlib.Core.Path.{_≡_, refl, sym, ap, ap₂, subst, _∙_}
+-- Laws of adding lines at a cursor, and of what a buffer then begins with. Assumes nothing.
+use mathlib.Core.Path.{_≡_, refl, sym, ap, ap₂, _∙_}
 use mathlib.Core.List.{List, [], _∷_, _++_, append-assoc, append-nil}
 use Prim.Native.Nat.{ℕ, _+_, _≤_}
 use native.Mathlib.Omega.{arith}
-use lib.ListN.{length, take, drop}
+use lib.ListN.{length, take, drop, length-take}
 use lib.Seq.{take-at}
 use Rattle.number.specs.BigEndian.{overwritten}
-use Rattle.text.specs.Ascii.{ascii}
 use Rattle.field.specs.declared.Cursor.{Cursor}
-use Rattle.store.specs.Stored.{place, Put, none, more, concat}
+use Rattle.store.specs.Stored.{place, Put, Puts, none as no-piece, more as a-piece, concat}
 use Rattle.store.proofs.Storing.{puts-then, each-put}
-use Rattle.lines.specs.Lines.{Line, lineText, text, Adds, AddsLine, AddsLines, none as no-line, more as a-line}
+use Rattle.lines.specs.Lines.{Line, lineText, text, Begins, AddsLines}
+
+-- ---- lines
 
 concat-then : (es fs : List (List ℕ)) → concat (es ++ fs) ≡ concat es ++ concat fs
 concat-then [] fs = refl
 concat-then (e ∷ es) fs = ap (λ (x : List ℕ). e ++ x) (concat-then es fs) ∙ sym (append-assoc e (concat es) (concat fs))
 
-pub put-adds : {l m e : List ℕ} {c d : Cursor} → Put l c e m d → Adds l c e m d
-put-adds {e = e} p = record { pieces = e ∷ []; puts = more p none; are = append-nil e }
+pub text-then : (ls ks : List Line) → text (ls ++ ks) ≡ text ls ++ text ks
+text-then [] ks = refl
+text-then (l ∷ ls) ks = ap (λ (x : List ℕ). lineText l ++ x) (text-then ls ks) ∙ sym (append-assoc (lineText l) (text ls) (text ks))
 
-pub adds-then : {l m n a b : List ℕ} {c d f : Cursor} → Adds l c a m d → Adds m d b n f → Adds l c (a ++ b) n f
-adds-then p q =
-    record { pieces = p .pieces ++ q .pieces; puts = puts-then (p .puts) (q .puts); are = concat-then (p .pieces) (q .pieces) ∙ ap₂ _++_ (p .are) (q .are) }
+-- no line
+pub none : {l : List ℕ} {c : Cursor} → AddsLines l c [] l c
+none = record { pieces = []; puts = no-piece; are = refl }
 
--- a line of two words
-pub two-words : {l m₁ m₂ m₃ n v w : List ℕ} {c d₁ d₂ d₃ f : Cursor}
-    → Put l c v m₁ d₁ → Put m₁ d₁ (ascii " ") m₂ d₂ → Adds m₂ d₂ w m₃ d₃ → Put m₃ d₃ (ascii "\n") n f → AddsLine l c (v ∷ w ∷ []) n f
-two-words p s q e = record { is = adds-then (put-adds p) (adds-then (put-adds s) (adds-then q (put-adds e))) }
-
--- an entry, and the line's end behind it
-pub entry-line : {l m n v w : List ℕ} {c d f : Cursor} → Adds l c (v ++ (ascii " " ++ w)) m d → Put m d (ascii "\n") n f → AddsLine l c (v ∷ w ∷ []) n f
-entry-line {v = v} {w = w} p e = record { is = rw (← (append-assoc v (ascii " " ++ w) (ascii "\n"))) (adds-then p (put-adds e)) }
-
--- an entry, and more words behind it
-pub entry-more : {l m₁ m₂ n v w u : List ℕ} {us : Line} {c d₁ d₂ f : Cursor}
-    → Adds l c (v ++ (ascii " " ++ w)) m₁ d₁ → Put m₁ d₁ (ascii " ") m₂ d₂ → AddsLine m₂ d₂ (u ∷ us) n f → AddsLine l c (v ∷ w ∷ u ∷ us) n f
-entry-more {v = v} {w = w} {u = u} {us = us} p s r =
-    record { is = rw (← (append-assoc v (ascii " " ++ w) (ascii " " ++ lineText (u ∷ us)))) (adds-then p (adds-then (put-adds s) (r .is))) }
-
--- ---- lines
+-- a line that was stored whole, and lines behind it
+pub more : {l m n : List ℕ} {c d f : Cursor} {ws : Line} {ls : List Line} → Put l c (lineText ws) m d → AddsLines m d ls n f → AddsLines l c (ws ∷ ls) n f
+more {ws = ws} p q = record { pieces = lineText ws ∷ q .pieces; puts = a-piece p (q .puts); are = ap (λ (x : List ℕ). lineText ws ++ x) (q .are) }
 
 pub lines-then : {l m n : List ℕ} {c d f : Cursor} {ls ks : List Line} → AddsLines l c ls m d → AddsLines m d ks n f → AddsLines l c (ls ++ ks) n f
-lines-then no-line q = q
-lines-then (a-line p r) q = a-line p (lines-then r q)
+lines-then {ls = ls} {ks = ks} p q =
+    record { pieces = p .pieces ++ q .pieces; puts = puts-then (p .puts) (q .puts); are = concat-then (p .pieces) (q .pieces) ∙ ap₂ _++_ (p .are) (q .are) ∙ sym (text-then ls ks) }
 
-nothing-added : (l : List ℕ) (c : Cursor) → Adds l c [] l c
-nothing-added l c = record { pieces = []; puts = none; are = refl }
+-- two lines that were stored whole, and lines behind them
+pub two-more : {l m n : List ℕ} {c d f : Cursor} {ws vs : Line} {ls : List Line} → Put l c (text (ws ∷ vs ∷ [])) m d → AddsLines m d ls n f → AddsLines l c (ws ∷ vs ∷ ls) n f
+two-more {ws = ws} {vs = vs} p q =
+    let two = text (ws ∷ vs ∷ []) in
+    lines-then {ls = ws ∷ vs ∷ []} (record { pieces = two ∷ []; puts = a-piece p no-piece; are = append-nil two }) q
 
-pub lines-add : {l n : List ℕ} {c f : Cursor} {ls : List Line} → AddsLines l c ls n f → Adds l c (text ls) n f
-lines-add {l} {c = c} no-line = nothing-added l c
-lines-add (a-line p q) = adds-then (p .is) (lines-add q)
+-- ---- what a buffer begins with
 
--- text that fits stands at the front, and the cursor behind it
-pub added : {l e n : List ℕ} {f : Cursor} → Adds l (place 0) e n f → length e ≤ length l → (f .at ≡ length e) × (take (length e) n ≡ e)
-unfolding overwritten
-added {l} {e} {n} {f} p h =
-    let zero-plus : 0 + length e ≡ length e = omega arith in
-    let s = each-put (p .puts) refl (rw (p .are) (omega arith)) in
-    let b : n ≡ e ++ drop (length e) l = s .0 ∙ rw (p .are, zero-plus) in
-    (s .2 ∙ rw (p .are, zero-plus), rw b (take-at e (drop (length e) l) (length e) refl))
+pub begins-length : {s e : List ℕ} {k : ℕ} → Begins s e k → length e ≡ k
+begins-length b = ap length (sym (b .is)) ∙ sym (b .counts .1)
+
+module _ {l n e : List ℕ} {f : Cursor} (short : length e ≤ length l) where
+  pieces-begin : {es : List (List ℕ)} → Puts l (place 0) es n f → concat es ≡ e → Begins n e (f .at)
+  unfolding overwritten
+  pieces-begin p are =
+      let zero-plus : 0 + length e ≡ length e = omega arith in
+      let s = each-put p refl (rw are (omega arith)) in
+      let at : f .at ≡ length e = s .2 ∙ rw (are, zero-plus) in
+      let b : n ≡ e ++ drop (length e) l = s .0 ∙ rw (are, zero-plus) in
+      let t : take (f .at) n ≡ e = rw (at, b) (take-at e (drop (length e) l) (length e) refl) in
+      let z : f .at ≡ length (take (f .at) n) = at ∙ ap length (sym t) in
+      record { is = t; counts = (omega (arith, z, length-take (f .at) n), z) }
+
+  -- what was stored at the start, where it fits
+  pub put-begins : Put l (place 0) e n f → Begins n e (f .at)
+  put-begins p = pieces-begin (a-piece p no-piece) (append-nil e)
+
+-- lines that were added at the start, where they fit
+pub added : {l n : List ℕ} {f : Cursor} {ls : List Line} → AddsLines l (place 0) ls n f → length (text ls) ≤ length l → Begins n (text ls) (f .at)
+added p h = pieces-begin h (p .puts) (p .are)

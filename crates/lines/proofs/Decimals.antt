@@ -1,22 +1,27 @@
 -- Laws of numbers in decimal. Assumes nothing.
-use mathlib.Core.Path.{_≡_, refl, sym, ap}
+use mathlib.Core.Path.{_≡_, refl, sym, ap, _∙_}
 use mathlib.Core.Bool.{true, false, cond}
-use mathlib.Core.List.{[], _∷_, _++_}
+use mathlib.Core.List.{List, [], _∷_, _++_}
 use Prim.Native.Nat.{ℕ, zero, suc, _+_, _-_, _/_, _%_, _^_, _≤_, _<_}
 use native.Mathlib.Decide.{decLt}
 use native.Mathlib.Nat.{pow-suc, pow-le-pow-right}
 use native.Mathlib.Omega.{arith}
-use lib.Dec.{ltb, lit<}
+use lib.Dec.{ltb, lit<, lit≤}
 use lib.IntN.{ℤ, pos, negsuc}
-use lib.ListN.{length, length-append}
+use lib.ListN.{length, take, length-append}
 use lib.Signed.{ltZ}
 use mir.Syntax.{w32}
-use mir.Val.{SFits}
+use mir.Val.{SFits, toZ, ofZ}
+use mir.ValLaws.{toZ-ofZ}
 use borrow.Author.Tests.{lt-ltb, le-ltb, ltb-true}
+use Rattle.io.specs.Counts.{Counts}
 use Rattle.io.specs.Digits.{glyph, digits, Fewest}
 use Rattle.number.specs.TwosComplement.{bitsOf}
 use Rattle.text.specs.Ascii.{ascii}
-use Rattle.lines.specs.Lines.{places, decimal, integer}
+use Rattle.field.specs.declared.Cursor.{Cursor}
+use Rattle.store.specs.Stored.{place, Put}
+use Rattle.lines.specs.Lines.{places, decimal, mostDigits, integer, Begins}
+use Rattle.lines.proofs.Adding.{put-begins}
 
 power : {i j : ℕ} → i ≤ j → 10 ^ i ≤ 10 ^ j
 power h = pow-le-pow-right (lit< tt) h
@@ -37,7 +42,7 @@ places-are (suc f) j k n l u h m = go (decLt j k) (λ g. places-are f (suc j) k 
         rw (le-ltb n (10 ^ j) (omega (arith, m g))) (later g)
     go (no g) later = let e : j ≡ k = omega arith in rw (e, lt-ltb n (10 ^ k) h)
 
-pub fewest-digits : (n k : ℕ) → Fewest 10 1 n k → digits 10 k n ≡ decimal n
+fewest-digits : (n k : ℕ) → Fewest 10 1 n k → digits 10 k n ≡ decimal n
 unfolding decimal
 fewest-digits n k h = ap (λ (j : ℕ). digits 10 j n) (sym (places-are n 1 k n (h .0) (enough (decLt 1 k)) (h .1) (h .2)))
   where
@@ -68,6 +73,14 @@ pub decimal-short : (n j : ℕ) → 1 ≤ j → n < 10 ^ j → length (decimal n
 unfolding decimal
 decimal-short n j l h = omega (arith, length-digits 10 (places n 1 n) n, places-below n 1 n j l h)
 
+-- ---- digits in an array
+
+-- what `io::decimal` promises, in our terms
+pub digits-made : (n k : ℕ) (d : List ℕ) → n < 2 ^ 64 → Counts k d → Fewest 10 1 n k → take k d ≡ digits 10 k n → Begins d (decimal n) k × (k ≤ mostDigits)
+digits-made n k d l h g e =
+    let f : take k d ≡ decimal n = e ∙ fewest-digits n k g in
+    (record { is = f; counts = h }, omega (arith, h .1, ap length f, decimal-short n mostDigits (lit≤ tt) (omega arith)))
+
 -- ---- a sign
 
 -- the magnitude of a negative number, from its bits
@@ -83,3 +96,12 @@ pub positive-text : (z : ℤ) → ltZ z (pos 0) ≡ false → decimal (bitsOf 4 
 unfolding bitsOf
 positive-text (pos n) t = refl
 positive-text (negsuc n) t = let z : _≡_ {A = ℕ} 0 1 = cc in let none : ⊥ = omega arith in absurd none
+
+-- the most bytes of a number of 32 bits: ten digits and a sign
+pub integer-short : (z : ℤ) → SFits w32 z → length (integer z) ≤ 11
+integer-short (pos n) f = let l : n < 2 ^ 31 = f .sfits in omega (arith, decimal-short n 10 (lit≤ tt) (omega arith))
+integer-short (negsuc n) f = let l : n < 2 ^ 31 = f .sfits in omega (arith, decimal-short (suc n) 10 (lit≤ tt) (omega arith))
+
+-- a number of 32 bits, in an array that is long enough for each
+pub integer-begins : {l n : List ℕ} {f : Cursor} (z : ℤ) → SFits w32 z → 11 ≤ length l → Put l (place 0) (integer (toZ w32 (ofZ w32 z))) n f → Begins n (integer z) (f .at)
+integer-begins z fit long p = put-begins (omega (arith, integer-short z fit)) (rw (toZ-ofZ w32 z fit) at p)

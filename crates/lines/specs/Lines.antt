@@ -1,10 +1,12 @@
--- Text in lines: names, numbers in decimal, and what adding text at a cursor means.
+-- Text in lines: numbers in decimal, names and values, and what adding lines at a cursor means.
 use Prim.Native.Nat.{ℕ, zero, suc, _^_}
 use mathlib.Core.Path.{_≡_}
 use mathlib.Core.Bool.{cond}
 use mathlib.Core.List.{List, [], _∷_, _++_}
 use lib.Dec.{ltb}
 use lib.IntN.{ℤ, pos, negsuc}
+use lib.ListN.{take}
+use Rattle.io.specs.Counts.{Counts}
 use Rattle.io.specs.Digits.{digits}
 use Rattle.text.specs.Ascii.{ascii}
 use Rattle.field.specs.declared.Cursor.{Cursor}
@@ -18,6 +20,10 @@ places (suc f) k n = cond (ltb n (10 ^ k)) k (places f (suc k) n)
 -- a number in decimal: the fewest digits, and one at least
 unfoldable pub decimal : ℕ → List ℕ
 decimal n = digits 10 (places n 1 n) n
+
+-- the most digits of a number of 64 bits
+abbrev pub mostDigits : ℕ
+mostDigits = 20
 
 -- with its sign, where it is negative
 abbrev pub integer : ℤ → List ℕ
@@ -37,17 +43,17 @@ abbrev pub text : List Line → List ℕ
 text [] = []
 text (l ∷ ls) = lineText l ++ text ls
 
--- the bytes e at c, in pieces one after another, and d is behind them
-pub record Adds (l : List ℕ) (c : Cursor) (e m : List ℕ) (d : Cursor) : Type 0 where
+-- a name and a value: a space between them, and the byte x behind them
+abbrev pub entry : List ℕ → List ℕ → ℕ → List ℕ
+entry name value x = name ++ (ascii " " ++ (value ++ (x ∷ [])))
+
+-- s begins with the bytes e, k of them
+pub record Begins (s e : List ℕ) (k : ℕ) : Type 0 where
+  pub is : take k s ≡ e
+  pub counts : Counts k s
+
+-- the text of these lines at c, in pieces one after another, each of them whole or refused; d is behind them
+pub record AddsLines (l : List ℕ) (c : Cursor) (ls : List Line) (m : List ℕ) (d : Cursor) : Type 0 where
   pub pieces : List (List ℕ)
   pub puts : Puts l c pieces m d
-  pub are : concat pieces ≡ e
-
--- a line of these words
-pub record AddsLine (l : List ℕ) (c : Cursor) (ws : Line) (m : List ℕ) (d : Cursor) : Type 0 where
-  pub is : Adds l c (lineText ws) m d
-
--- lines, one after another
-pub data AddsLines : List ℕ → Cursor → List Line → List ℕ → Cursor → Type 0 where
-  none : {l : List ℕ} {c : Cursor} → AddsLines l c [] l c
-  more : {l m n : List ℕ} {c d f : Cursor} {ws : Line} {ls : List Line} → AddsLine l c ws m d → AddsLines m d ls n f → AddsLines l c (ws ∷ ls) n f
+  pub are : concat pieces ≡ text ls

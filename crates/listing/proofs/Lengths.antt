@@ -1,6 +1,6 @@
 -- The listing of a request of bytes has at most `longestListing` bytes. Assumes nothing.
-use mathlib.Core.Path.{_≡_, refl, sym, ap, _∙_}
-use mathlib.Core.List.{List, [], _∷_, _++_, append-assoc}
+use mathlib.Core.Path.{_≡_, refl, ap}
+use mathlib.Core.List.{List, [], _∷_, _++_}
 use Prim.Native.Nat.{ℕ, _+_, _≤_}
 use native.Mathlib.Omega.{arith}
 use lib.Dec.{leb}
@@ -19,6 +19,7 @@ use Rattle.layout.specs.Parts.{requestFieldsOf, fieldsOf}
 use Rattle.layout.proofs.Trace.{BodyHere, MessageHere, message-traced}
 use Rattle.layout.proofs.Sizes.{known-inside}
 use Rattle.lines.specs.Lines.{decimal, Line, lineText, text}
+use Rattle.lines.proofs.Adding.{text-then}
 use Rattle.method_names.specs.Names.{nameOf}
 use Rattle.request_lines.specs.FieldLines.{fieldLines}
 use Rattle.request_lines.proofs.FieldLengths.{digits-20, num-below, body-short, capacity, fields-fit}
@@ -32,10 +33,6 @@ method-fits x =
     (request-passes (λ y. leb (length (ascii (nameOf y)) + capacity (row y .request)) 179) refl (requestNumber x) (request-found x))
 
 -- ---- whole listings
-
-text-then : (ls ks : List Line) → text (ls ++ ks) ≡ text ls ++ text ks
-text-then [] ks = refl
-text-then (l ∷ ls) ks = ap (λ (x : List ℕ). lineText l ++ x) (text-then ls ks) ∙ sym (append-assoc (lineText l) (text ls) (text ks))
 
 three-words : (u v w : List ℕ) → length (lineText (u ∷ v ∷ w ∷ [])) ≡ length u + length v + length w + 3
 three-words u v w =

@@ -1,11 +1,11 @@
 -- From the lines that were added to the listing. Assumes nothing.
-use mathlib.Core.Path.{_≡_, refl, sym, ap, subst, _∙_}
-use mathlib.Core.List.{List, [], _∷_}
+use mathlib.Core.Path.{_≡_, refl, sym, ap, _∙_}
+use mathlib.Core.List.{List, [], _∷_, append-assoc}
 use Prim.Native.Nat.{ℕ, _+_, _≤_}
 use native.Mathlib.Decide.{decLe}
 use native.Mathlib.Omega.{arith}
 use lib.Dec.{leb}
-use lib.ListN.{length, take, getD, length-take}
+use lib.ListN.{length, take, getD}
 use mir.Syntax.{w8}
 use mir.Val.{Fits}
 use borrow.Author.Tests.{le-leb, lt-leb}
@@ -25,18 +25,20 @@ use Rattle.request_reader.specs.declared.RequestAnswer.{RequestAnswer}
 use Rattle.request_reader.specs.declared.RequestAnswer.the-variants.{Known, Unknown, Refused}
 use Rattle.request_reader.specs.Answers.{methodOf, answerOf}
 use Rattle.writer.specs.declared.Written.{Written}
-use Rattle.store.specs.Stored.{Stored, left, place, refusal, roomAt, Put}
+use Rattle.store.specs.Stored.{Stored, left, place, refusal, roomAt, Put, none as no-piece, more as a-piece}
 use Rattle.writer.specs.Writers.{toldOf, Ends, Wrote}
 use Rattle.store.proofs.Storing.{all-put}
-use Rattle.lines.specs.Lines.{text, Adds, AddsLine, AddsLines}
-use Rattle.lines.proofs.Adding.{put-adds, adds-then, lines-add, added}
+use Rattle.lines.specs.Lines.{lineText, text, Begins, AddsLines}
+use Rattle.lines.proofs.Adding.{added}
 use Rattle.listing.specs.Listing.{listing, listed, longestListing}
-use Rattle.listing.specs.Rendered.{answerLines, Rendered}
+use Rattle.listing.specs.Rendered.{answerLines}
 use Rattle.listing.proofs.Lengths.{listing-fits}
 
 -- a name, and the rest of the first line
-pub named : {l m n v w : List ℕ} {c d f : Cursor} → Put l c v m d → AddsLine m d (ascii " id" ∷ w ∷ []) n f → AddsLine l c (v ∷ ascii "id" ∷ w ∷ []) n f
-named p q = record { is = adds-then (put-adds p) (q .is) }
+pub named : {l m n v w : List ℕ} {c d f : Cursor} → Put l c v m d → Put m d (lineText (ascii " id" ∷ w ∷ [])) n f → AddsLines l c ((v ∷ ascii "id" ∷ w ∷ []) ∷ []) n f
+named {v = v} {w = w} p q =
+    let rest = lineText (ascii " id" ∷ w ∷ []) in
+    record { pieces = v ∷ rest ∷ []; puts = a-piece p (a-piece q no-piece); are = sym (append-assoc v rest []) }
 
 -- ---- the answer's lines are the listing's
 
@@ -73,17 +75,14 @@ put-wrote {l} {e} {n} {f} {r} p end = go (decLe (length e) (length l))
         (record { tells = end .is ∙ rw (ap (λ (x : Stored). x .next) s); leaves = ap (λ (x : Stored). x .buffer) s })
 
 pub rendered : (m : List ℕ) (a : RequestAnswer) {l n : List ℕ} {f : Cursor} → ((i : ℕ) → Fits w8 (getD m i 0)) → length l ≡ longestListing
-    → answerOf a ≡ read request m → AddsLines l (place 0) (answerLines a (length m)) n f → Rendered m n (f .at)
-rendered m a {l} {n} {f} by long e p =
-    let s : (f .at ≡ length (listing m)) × (take (length (listing m)) n ≡ listing m) =
-    added (subst (λ (x : List ℕ). Adds l (place 0) x n f) (answer-text m a e) (lines-add p)) (rw long (listing-fits m (λ i. by i .fits))) in
-    let t : take (f .at) n ≡ listing m = rw (s .0) (s .1) in
-    let z : f .at ≡ length (take (f .at) n) = s .0 ∙ ap length (sym t) in
-    record { front = t; counts = (omega (arith, z, length-take (f .at) n), z) }
+    → answerOf a ≡ read request m → AddsLines l (place 0) (answerLines a (length m)) n f → Begins n (listing m) (f .at)
+rendered m a by long e p =
+    let same = answer-text m a e in
+    rw same at (added p (rw (same, long) (listing-fits m (λ i. by i .fits))))
 
-pub put-listed : (m : List ℕ) {l n t : List ℕ} {k : ℕ} {f : Cursor} {r : Written} → Rendered m t k → Put l (place 0) (take k t) n f → Ends f r → Wrote (listed m l) n r
+pub put-listed : (m : List ℕ) {l n t : List ℕ} {k : ℕ} {f : Cursor} {r : Written} → Begins t (listing m) k → Put l (place 0) (take k t) n f → Ends f r → Wrote (listed m l) n r
 unfolding listed
-put-listed m d p end = rw (← (d .front)) (put-wrote p end)
+put-listed m d p end = rw (← (d .is)) (put-wrote p end)
 
 -- a buffer of the longest listing's size is never refused
 pub enough : (m l : List ℕ) {n : List ℕ} {r : Written} → ((i : ℕ) → Fits w8 (getD m i 0)) → Wrote (listed m l) n r → longestListing ≤ length l

@@ -1,9 +1,6 @@
 -- What the parts of the renderer add, in the terms of the reader's answer.
 use Prim.Native.Nat.{ℕ}
-use mathlib.Core.Path.{_≡_}
 use mathlib.Core.List.{List, [], _∷_, _++_}
-use lib.ListN.{take}
-use Rattle.io.specs.Counts.{Counts}
 use Rattle.method.specs.Methods.{found, unknown as no-method}
 use Rattle.layout.specs.Table.{row}
 use Rattle.request_reader.specs.declared.Request.{Request}
@@ -12,7 +9,7 @@ use Rattle.request_reader.specs.declared.RequestAnswer.the-variants.{Known, Unk
 use Rattle.request_reader.specs.Answers.{methodOf, typeOf, valuesOf}
 use Rattle.lines.specs.Lines.{Line}
 use Rattle.request_lines.specs.FieldLines.{fieldLines}
-use Rattle.listing.specs.Listing.{closingLine, refusalLine, firstLine, listing}
+use Rattle.listing.specs.Listing.{closingLine, refusalLine, firstLine}
 
 abbrev pub knownLines : ℕ → Request → ℕ → ℕ → List Line
 knownLines i q k whole = firstLine (found (methodOf q)) (typeOf q) i ∷ (fieldLines (row (methodOf q) .request) (valuesOf q) ++ (closingLine k whole ∷ []))
@@ -21,8 +18,3 @@ abbrev pub answerLines : RequestAnswer → ℕ → List Line
 answerLines (Known i q k) whole = knownLines i q k whole
 answerLines (Unknown i t k) whole = firstLine no-method t i ∷ closingLine k whole ∷ []
 answerLines (Refused n p) whole = refusalLine n p ∷ []
-
--- the listing of m stands at the front of n, and it has k bytes
-pub record Rendered (m n : List ℕ) (k : ℕ) : Type 0 where
-  pub front : take k n ≡ listing m
-  pub counts : Counts k n

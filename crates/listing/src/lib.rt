@@ -6,10 +6,11 @@ ghost use lib.ListN.{length};
 ghost use Rattle.method.specs.Methods.{unknown as no·method};
 ghost use Rattle.layout.specs.Writing.{stored};
 ghost use Rattle.request_reader.specs.Answers.{methodOf};
-ghost use Rattle.lines.specs.Lines.{AddsLine, AddsLines};
+ghost use Rattle.store.specs.Stored.{Put};
+ghost use Rattle.lines.specs.Lines.{lineText, Begins, AddsLines};
 ghost use Rattle.writer.specs.Writers.{toldOf, Wrote};
 ghost use Rattle.listing.specs.Listing.{firstLine, closingLine, refusalLine, listing, listed, longestListing};
-ghost use Rattle.listing.specs.Rendered.{knownLines, answerLines, Rendered};
+ghost use Rattle.listing.specs.Rendered.{knownLines, answerLines};
 use field::Cursor;
 use method::Method;
 use request_reader::Request;
@@ -32,7 +33,7 @@ pub fn list_request(m: &[u8], out: &mut [u8]) -> Written
 
 // Its length, with the listing at the start of `out`.
 fn render(m: &[u8], out: &mut [u8; LONGEST_LISTING]) -> usize
-    ensures { λ r. ⌜ Rendered (now (m .entry)) (now (out .exit)) r ⌝ }
+    ensures { λ r. ⌜ Begins (now (out .exit)) (listing (now (m .entry))) r ⌝ }
 {
     let answer = request_reader::read_request(m);
     let end = put_answer(out, Cursor { code: 0, at: 0 }, answer, m.len());
@@ -80,7 +81,7 @@ fn put_refused(out: &mut [u8], c: Cursor, number: u8, place: usize) -> Cursor
 }
 
 fn put_closing(out: &mut [u8], c: Cursor, known: usize, whole: usize) -> Cursor
-    ensures { λ r. ⌜ AddsLine (now (out .entry)) c (closingLine known whole) (now (out .exit)) r ⌝ }
+    ensures { λ r. ⌜ Put (now (out .entry)) c (lineText (closingLine known whole)) (now (out .exit)) r ⌝ }
 {
     lines::put_pair(out, c, b"known", known as u64, b"of", whole as u64)
 }

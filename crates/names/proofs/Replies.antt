@@ -7,7 +7,6 @@ use denote.Enum.Declared.{tagOf}
 use types.Run.{OneOf, miss}
 use Rattle.layout.specs.Values.{signed}
 use Rattle.layout.specs.Names.{namesAmong}
-use Rattle.field.specs.declared.Names.{Names}
 use Rattle.reply_reader.specs.declared.Reply.{Reply}
 use Rattle.reply_reader.specs.declared.Reply.the-variants as R
 use Rattle.reply_reader.specs.Answers.{valuesOf}
@@ -17,7 +16,7 @@ abbrev Nameless : Reply → Type 0
 Nameless q = (m : List ℕ) (z : ℤ) → namesAmong (signed z ∷ valuesOf m q) ≡ []
 
 pub data Split : Reply → Type 0 where
-  readdir : (ns : Names) → Split (R.Readdir ns)
+  readdir : (n : ℕ) → Split (R.Readdir n)
   other : {q : Reply} → Nameless q → Split q
 
 pub split : (q : Reply) → Split q

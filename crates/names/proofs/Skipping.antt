@@ -38,6 +38,11 @@ skip-end {m} {w} {v} n e =
     let s = ended-stays m (positionOf w) (sym (e .is)) in
     s ∙ sym (ended-skips n m (positionOf w) (sym (e .is) ∙ ap ended s))
 
+-- one step more, behind those made
+pub skip-more : (n : ℕ) (m : List ℕ) (w : layout.Position) → behind (step m (skipped n m w)) ≡ skipped (suc n) m w
+skip-more zero m w = refl
+skip-more (suc n) m w = skip-more n m (behind (step m w))
+
 -- ---- the name behind n names is the n-th of the reply, counted from 0
 
 ended-steps : (n : ℕ) (m : List ℕ) (w : layout.Position) → step m w ≡ ended w → steps n m w ≡ []

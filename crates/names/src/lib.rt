@@ -8,9 +8,9 @@ ghost use lib.IntN.{ℤ};
 ghost use lib.ListN.{length};
 ghost use Rattle.layout.specs.Values.{signed};
 ghost use Rattle.layout.specs.Names.{namesAmong, namesOf, opened, step as step·at};
-ghost use Rattle.field.specs.Cursors.{shown};
+ghost use Rattle.field.specs.Cursors.{Shows};
 ghost use Rattle.reply_reader.specs.Answers.{answerOf, valuesOf};
-ghost use Rattle.names.specs.Positions.{openedBy, positionOf, stepOf, nameOf, skipped};
+ghost use Rattle.names.specs.Positions.{openedBy, positionOf, stepOf, nameOf, behind as behind·step, skipped};
 use field::Cursor;
 use field::Run;
 use reply_reader::Reply;
@@ -66,8 +66,8 @@ fn count_of(answer: ReplyAnswer) -> u32
 fn count_of_reply(reply: Reply) -> u32
     ensures { λ r. ⌜ ((m : List ℕ) (z : ℤ) → r ≡ length (namesAmong (signed z ∷ valuesOf m reply))) ⌝ }
 {
-    if let Reply::Readdir { names } = reply {
-        return names.count;
+    if let Reply::Readdir { count } = reply {
+        return count;
     }
     0
 }
@@ -98,9 +98,19 @@ pub fn next(m: &[u8], position: Position) -> Step
     Step::End { position }
 }
 
+// The position behind a step; at the end it stays.
+pub fn behind(step: Step) -> Position
+    ensures { λ r. ⌜ positionOf r ≡ behind·step (stepOf step) ⌝ }
+{
+    match step {
+        Step::Name { next, .. } => next,
+        Step::End { position: end } => end,
+    }
+}
+
 // The bytes of the name that a step gave, as a part of the message; none where it gave no name.
 pub fn name<'a>(m: &'a [u8], step: Step) -> &'a [u8]
-    ensures { λ s. ⌜ now s ≡ shown (now (m .entry)) (nameOf (stepOf step)) ⌝ }
+    ensures { λ s. ⌜ Shows (m .entry) (nameOf (stepOf step)) s ⌝ }
 {
     match step {
         Step::Name { run, .. } => field::bytes_of(m, run),
@@ -110,7 +120,7 @@ pub fn name<'a>(m: &'a [u8], step: Step) -> &'a [u8]
 
 // The bytes of the next name, as a part of the message; none where there is no name.
 pub fn next_name<'a>(m: &'a [u8], position: Position) -> &'a [u8]
-    ensures { λ s. ⌜ now s ≡ shown (now (m .entry)) (nameOf (step·at (now (m .entry)) (positionOf position))) ⌝ }
+    ensures { λ s. ⌜ Shows (m .entry) (nameOf (step·at (now (m .entry)) (positionOf position))) s ⌝ }
 {
     let step = next(m, position);
     name(m, step)

@@ -31,6 +31,10 @@ use Rattle.names_iterator.specs.declared.Iter.{Iter}
 use Rattle.names_iterator.proofs.Iter as T
 use Rattle.names_iterator.proofs.Iter.Laws as T′
 
+-- the token of a function over one lifetime
+abbrev pub Token : {M : Type 1} {𝓤 : URA M} → Lft → Share → Item 𝓤
+Token κ q = ‵ (flft κ q) ⊛ ‵ ftrue
+
 -- the struct's type, its description and its laws, over a signature's lifetimes
 abbrev pub B : Lfts 1 → RattleType
 B κs = T.the-row (namedLft 1 0 tt κs)
@@ -80,20 +84,26 @@ module _ {M : Type 1} (𝓤 : URA M) (H : Heap 𝓤) (A : Atoms 𝓤) (W : Given
 
   module _ (q : Share) where
     -- at entry of a function with the struct alone: what a callee asks of the two fields is had, and the struct is kept
-    pub lent : (d : Iter) (pre : SProp 𝓤) → ent 𝓤 (⋆ 𝓤 H A ((‵ (flft κ q) ⊛ ‵ ftrue) ∷ ‵ (Fields κ d) ∷ [])) pre
-        → ent 𝓤 (⋆ 𝓤 H A ((‵ (flft κ q) ⊛ ‵ ftrue) ∷ ‵ (owns (B (κ, tt) ∷ []) (d, tt) (T′.lowered d ∷ [], tt)) ∷ [])) (sep 𝓤 pre (sem 𝓤 H A (Own κ d)))
+    pub lent : (d : Iter) (pre : SProp 𝓤) → ent 𝓤 (⋆ 𝓤 H A (Token κ q ∷ ‵ (Fields κ d) ∷ [])) pre
+        → ent 𝓤 (⋆ 𝓤 H A (Token κ q ∷ ‵ (owns (B (κ, tt) ∷ []) (d, tt) (T′.lowered d ∷ [], tt)) ∷ [])) (sep 𝓤 pre (sem 𝓤 H A (Own κ d)))
     lent d pre asked =
-        qed W ((‵ (flft κ q) ⊛ ‵ ftrue) ∷ ‵ (owns (B (κ, tt) ∷ []) (d, tt) (T′.lowered d ∷ [], tt)) ∷ []) ∵
+        qed W (Token κ q ∷ ‵ (owns (B (κ, tt) ∷ []) (d, tt) (T′.lowered d ∷ [], tt)) ∷ []) ∵
         move ! (1 ∷ []) $ fsplit ! $ move ! (1 ∷ []) $ drop ! $ use1 W (‵ (Fields κ d) ⊛ ‵ (Own κ d)) (apart d) $ split ! $
         -- [what the fields own; what the struct owns; the token]
         move ! (2 ∷ 0 ∷ []) $ use2 W (raw pre) asked $ frame ! $ done !
 
--- A call has returned u: its result and the token are had, the clause of its contract is heard, and the result's typing is shown.
+-- A call has returned u: its result and the tokens are had, the clause of its contract is heard, and the result's typing is shown.
 module _ {M : Type 1} {𝓤 : URA M} {H : Heap 𝓤} {A : Atoms 𝓤} {W : Given 𝓤 H A} {K : Type 0} {Γ : List (Item 𝓤)} {G : Goal 𝓤 H} where
-  pub returned : K → Soaks G → (κ : Lft) (q : Share) (R : RattleType) (u : Val) (ensured : R .Denot → SProp 𝓤) (φ : R .Denot → Type 0) → ((r : R .Denot) → ent 𝓤 (ensured r) (fact 𝓤 (φ r))) → {post : SProp 𝓤}
-      → ent 𝓤 post (mean 𝓤 H A (later (some (λ (r : R .Denot). ((‵ (flft κ q) ⊛ ‵ ftrue) ⊛ ‵ (R .own r (u ∷ []))) ⊛ raw (ensured r)))))
-      → ((r : R .Denot) → φ r → Is R r (u ∷ []) → Seq K W (‵ (R .own r (u ∷ [])) ∷ (‵ (flft κ q) ⊛ ‵ ftrue) ∷ Γ) G) → Seq K W (raw post ∷ Γ) G
-  returned t z κ q R u ensured φ said now k =
-      use1 W (later (some (λ (r : R .Denot). ((‵ (flft κ q) ⊛ ‵ ftrue) ⊛ ‵ (R .own r (u ∷ []))) ⊛ raw (ensured r)))) now $ await t z $ pick t (λ r.
+  pub answered : K → Soaks G → (tokens : Item 𝓤) (R : RattleType) (u : Val) (ensured : R .Denot → SProp 𝓤) (φ : R .Denot → Type 0) → ((r : R .Denot) → ent 𝓤 (ensured r) (fact 𝓤 (φ r))) → {post : SProp 𝓤}
+      → ent 𝓤 post (mean 𝓤 H A (later (some (λ (r : R .Denot). (tokens ⊛ ‵ (R .own r (u ∷ []))) ⊛ raw (ensured r)))))
+      → ((r : R .Denot) → φ r → Is R r (u ∷ []) → Seq K W (‵ (R .own r (u ∷ [])) ∷ tokens ∷ Γ) G) → Seq K W (raw post ∷ Γ) G
+  answered t z tokens R u ensured φ said now k =
+      use1 W (later (some (λ (r : R .Denot). (tokens ⊛ ‵ (R .own r (u ∷ []))) ⊛ raw (ensured r)))) now $ await t z $ pick t (λ r.
       split t $ move t (1 ∷ []) $ use1 W (raw (fact 𝓤 (φ r))) (said r) $ heard t (φ r) (λ e. split t $ move t (1 ∷ []) $
       peeks t R (Is R) (shows 𝓤 H A R) r (u ∷ []) (λ is. k r e is)))
+
+  -- the same of a function over one lifetime
+  pub returned : K → Soaks G → (κ : Lft) (q : Share) (R : RattleType) (u : Val) (ensured : R .Denot → SProp 𝓤) (φ : R .Denot → Type 0) → ((r : R .Denot) → ent 𝓤 (ensured r) (fact 𝓤 (φ r))) → {post : SProp 𝓤}
+      → ent 𝓤 post (mean 𝓤 H A (later (some (λ (r : R .Denot). (Token κ q ⊛ ‵ (R .own r (u ∷ []))) ⊛ raw (ensured r)))))
+      → ((r : R .Denot) → φ r → Is R r (u ∷ []) → Seq K W (‵ (R .own r (u ∷ [])) ∷ Token κ q ∷ Γ) G) → Seq K W (raw post ∷ Γ) G
+  returned t z κ q = answered t z (Token κ q)

@@ -1,3 +1,5 @@
 pub mod Looping
 mod Held
 mod Taking
+mod Reaching
+mod Lending

@@ -1,10 +1,10 @@
-// The names iterator (document 01: walker): a struct that holds the reply and the position of the next name. It is Copy; to go on is
-// to make the next one. Each method takes it apart and leaves the work to a function of crate `names`.
+// The names iterator (document 01: walker): a struct that holds the reply and the position of the next name. `next` moves it on; it
+// is Copy, and the other methods leave it as it is. Each method takes it apart and leaves the work to functions of crate `names`.
 ghost use mathlib.Core.Path.{_≡_};
 ghost use Rattle.layout.specs.Names.{step as step·at};
-ghost use Rattle.field.specs.Cursors.{shown};
+ghost use Rattle.field.specs.Cursors.{Shows};
 ghost use Rattle.names.specs.Positions.{positionOf, stepOf, nameOf, nthName};
-ghost use Rattle.names_iterator.specs.Iterating.{Opened, stepOn, Further};
+ghost use Rattle.names_iterator.specs.Iterating.{Opened, stepOn, Further, Takes, NthStep};
 use names::Position;
 use names::Step;
 
@@ -24,6 +24,18 @@ pub fn open<'a>(reply: &'a [u8]) -> Iter<'a>
 }
 
 impl<'a> Iter<'a> {
+    // The next name, taken: the iterator is behind it afterwards. Past the last name it says so, and stays there.
+    pub fn next(&mut self) -> Step
+        ensures { λ s. ⌜ Takes (now (self .entry)) s (now (self .exit)) ⌝ }
+    {
+        let reply = self.reply;
+        let position = self.position;
+        let step = names::next(reply, position);
+        let behind = names::behind(step);
+        self.position = behind;
+        step
+    }
+
     // Whether there is a next name, where it lies, and the position behind it. Past the last it says that there is none. The iterator
     // itself stays: `skip(1)` gives the one behind the name.
     pub fn step(self) -> Step
@@ -34,7 +46,7 @@ impl<'a> Iter<'a> {
 
     // The bytes of the next name, as a part of the reply. An empty name and the end look the same; `step` tells them apart.
     pub fn next_name(self) -> &'a [u8]
-        ensures { λ s. ⌜ now s ≡ shown (now (self .entry .reply)) (nameOf (stepOn (self .entry))) ⌝ }
+        ensures { λ s. ⌜ Shows (self .entry .reply) (nameOf (stepOn (self .entry))) s ⌝ }
     {
         names::next_name(self.reply, self.position)
     }
@@ -57,10 +69,29 @@ pub fn step_from(reply: &[u8], position: Position) -> Step
     Iter { reply, position }.step()
 }
 
+// A step, and where it leaves the iterator.
+pub struct Moved {
+    pub step: Step,
+    pub position: Position,
+}
+
+// The step that `next` gives behind `n` names, and where it leaves the iterator: opened, moved on and asked, for callers that hold no struct.
+// The reply is read whole at each call.
+pub fn nth_step(reply: &[u8], n: u32) -> Moved
+    ensures { λ r. ⌜ NthStep n (now (reply .entry)) r ⌝ }
+{
+    let mut it = open(reply).skip(n);
+    let step = it.next();
+    Moved {
+        step,
+        position: it.position,
+    }
+}
+
 // The bytes of a name by its number, counted from 0. An empty name and a number behind the last look the same; the reader's count tells
 // them apart. The reply is read whole at each call.
 pub fn nth_name<'a>(reply: &'a [u8], n: u32) -> &'a [u8]
-    ensures { λ s. ⌜ now s ≡ shown (now (reply .entry)) (nthName n (now (reply .entry))) ⌝ }
+    ensures { λ s. ⌜ Shows (reply .entry) (nthName n (now (reply .entry))) s ⌝ }
 {
     open(reply).skip(n).next_name()
 }

@@ -16,21 +16,21 @@ use Rattle.layout.proofs.Tests.{apart}
 use Rattle.field.specs.declared.Cursor.{Cursor}
 use Rattle.store.specs.Stored.{place, Put, Puts, none, more}
 use Rattle.store.proofs.Storing.{each-put}
-use Rattle.names_writer.specs.declared.Collected.the-variants.{Copied, NoRoom}
-use Rattle.names_writer.specs.Collecting.{sizes, joined, counted, Buffers, buffers, filled, RoomFor, Copies, Collects}
+use Rattle.names_writer.specs.declared.Collected.the-variants.{Copied}
+use Rattle.names_writer.specs.Collecting.{sizes, joined, noRoom, counted, Buffers, buffers, filled, RoomFor, Copies, Collects}
 
 -- ---- the answer
 
 module _ (ns : List ℕ) (room most : ℕ) where
-  too-many : most < length ns → NoRoom ≡ counted ns room most
+  too-many : most < length ns → noRoom ≡ counted ns room most
   unfolding counted
   too-many h = go (leb (sum ns) room)
     where
-      go : (b : Bool) → NoRoom ≡ cond (b && leb (length ns) most) (Copied (length ns) (sum ns)) NoRoom
+      go : (b : Bool) → noRoom ≡ cond (b && leb (length ns) most) (Copied (length ns) (sum ns)) noRoom
       go true = rw (lt-leb (length ns) most h)
       go false = refl
 
-  too-long : room < sum ns → NoRoom ≡ counted ns room most
+  too-long : room < sum ns → noRoom ≡ counted ns room most
   unfolding counted
   too-long h = rw (lt-leb (sum ns) room h)
 
@@ -43,7 +43,7 @@ module _ (ns : List ℕ) (room most : ℕ) where
   unfolding counted
   copied {count} {len} e = go (leb (sum ns) room) (leb (length ns) most) refl refl e
     where
-      go : (b c : Bool) → leb (sum ns) room ≡ b → leb (length ns) most ≡ c → Copied count len ≡ cond (b && c) (Copied (length ns) (sum ns)) NoRoom
+      go : (b c : Bool) → leb (sum ns) room ≡ b → leb (length ns) most ≡ c → Copied count len ≡ cond (b && c) (Copied (length ns) (sum ns)) noRoom
           → (count ≡ length ns) × (len ≡ sum ns) × (sum ns ≤ room) × (length ns ≤ most)
       go true true h k e = (cc, cc, leb-true (sum ns) room h, leb-true (length ns) most k)
       go true false h k e = let z : _≡_ {A = ℕ} 0 1 = cc in apart z
@@ -75,10 +75,10 @@ module _ {xs ys : List Part} {room most count len : ℕ} (l : CountLeft xs ys ro
     next-bytes : sum (sizes ys) ≡ x .size + sum (sizes zs)
     next-bytes = ap (λ (ws : List Part). sum (sizes ws)) e
 
-    pub names-full : most ≤ count → NoRoom ≡ counted (sizes xs) room most
+    pub names-full : most ≤ count → noRoom ≡ counted (sizes xs) room most
     names-full f = too-many (sizes xs) room most (omega (arith, next-name))
 
-    pub bytes-full : room - len < x .size → NoRoom ≡ counted (sizes xs) room most
+    pub bytes-full : room - len < x .size → noRoom ≡ counted (sizes xs) room most
     bytes-full f = too-long (sizes xs) room most (omega (arith, next-bytes))
 
     pub count-next : count < most → x .size ≤ room - len → CountLeft xs zs room most (count + 1) (len + x .size)

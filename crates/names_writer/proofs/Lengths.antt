@@ -6,15 +6,16 @@ use Prim.Native.Nat.{ℕ, zero, suc, _+_, _-_, _≤_, _<_}
 use native.Mathlib.Numerals.{add-one}
 use native.Mathlib.Omega.{arith}
 use lib.Dec.{eqb}
-use lib.ListN.{length, take, drop, getD, drop-of-length-le}
-use lib.Seq.{drop-cons, drop-drop}
+use lib.ListN.{length, take, drop, getD, drop-of-length-le, length-drop}
+use lib.Seq.{drop-cons, drop-drop, length-take-le}
 use borrow.Author.Tests.{eq-eqb, ne-eqb, not-true, not-false}
 use Rattle.number.specs.BigEndian.{bytesOf}
 use Rattle.text.specs.Utf8.{wellFormed}
-use Rattle.layout.specs.Writing.{allWellFormed, split, sum}
+use Rattle.layout.specs.Limits.{longest}
+use Rattle.layout.specs.Writing.{sized, allWellFormed, split, sum}
 use Rattle.field.specs.declared.Cursor.{Cursor}
-use Rattle.store.specs.Stored.{Puts, none}
-use Rattle.store.proofs.Storing.{puts-then}
+use Rattle.store.specs.Stored.{runFrom, Put, Puts, none, more}
+use Rattle.store.proofs.Storing.{put-from, run-put}
 use Rattle.names_writer.specs.Readdir.{namePieces}
 
 -- ---- one length further on
@@ -107,21 +108,26 @@ module _ {ns s : List ℕ} {i at : ℕ} (t : TextsLeft ns s i at) where
 pub record PutsLeft (l : List ℕ) (c : Cursor) (ns s m : List ℕ) (d : Cursor) (i at : ℕ) : Type 0 where
   pub placed : Placed ns s i at
   pub long : length m ≡ length l
+  pub within : d .code ≡ 0 → length s ≤ longest
   pub all : {n : List ℕ} {f : Cursor} → Puts m d (namePieces (namesLeft ns s i at)) n f → Puts l c (namePieces (split ns s)) n f
 
-pub puts-all : (l : List ℕ) (c : Cursor) (ns s : List ℕ) → sum ns ≡ length s → PutsLeft l c ns s l c 0 0
-puts-all l c ns s e = record { placed = record { is = omega arith }; long = refl; all = λ q. q }
+pub puts-all : (l : List ℕ) (c : Cursor) (ns s : List ℕ) → sum ns ≡ length s → (c .code ≡ 0 → length s ≤ longest) → PutsLeft l c ns s l c 0 0
+puts-all l c ns s e h = record { placed = record { is = omega arith }; long = refl; within = h; all = λ q. q }
 
 module _ {l : List ℕ} {c : Cursor} {ns s m : List ℕ} {d : Cursor} {i at : ℕ} (p : PutsLeft l c ns s m d i at) where
   pub puts-end : length ns ≤ i → Puts l c (namePieces (split ns s)) m d
   puts-end h = p .all (rw (placed-end (p .placed) h) none)
 
   pub puts-next : i < length ns → {m′ : List ℕ} {d′ : Cursor} → length m′ ≡ length m
-      → (let x = take (at + getD ns i 0 - at) (drop at s) in Puts m d (bytesOf 4 (length x) ∷ x ∷ []) m′ d′)
+      → (let x = take (at + getD ns i 0 - at) (drop at s) in Put m (runFrom d (length x)) (sized x) m′ d′)
       → PutsLeft l c ns s m′ d′ (i + 1) (at + getD ns i 0)
   puts-next h e q =
+      let x = take (at + getD ns i 0 - at) (drop at s) in
+      let short : length x ≤ length s = omega (arith, length-take-le (at + getD ns i 0 - at) (drop at s) (omega (arith, length-drop at s, placed-fits (p .placed) h)), placed-fits (p .placed) h) in
+      let stored = run-put (λ z. let w = p .within z in omega (arith, w, short)) q in
       record {
         placed = placed-next (p .placed) h;
         long = e ∙ p .long;
-        all = λ r. p .all (rw (placed-split (p .placed) h) (puts-then q r));
+        within = λ z. p .within (put-from stored z);
+        all = λ r. p .all (rw (placed-split (p .placed) h) (more stored r));
       }

@@ -1,10 +1,9 @@
 -- From the pieces that were stored to the readdir reply that was written. Assumes nothing.
 use mathlib.Core.Path.{_≡_, refl, sym, ap, ap₂, subst, _∙_}
-use mathlib.Core.Bool.{Bool, true, false, _&&_}
+use mathlib.Core.Bool.{Bool, true, false, and-true}
 use mathlib.Core.List.{List, [], _∷_, _++_, append-assoc, append-nil}
 use Prim.Native.Nat.{ℕ, suc, _+_, _*_, _%_, _^_, _≤_}
 use native.Mathlib.Omega.{arith}
-use lib.Dec.{eqb}
 use lib.IntN.{ℤ, pos, negsuc}
 use lib.ListN.{length, take, drop, length-append, length-drop}
 use lib.Seq.{length-take-le}
@@ -18,7 +17,7 @@ use Rattle.method.specs.Methods.{replyNumber, ofReply}
 use Rattle.layout.specs.Table.{reply, plan}
 use Rattle.layout.specs.Values.{signed, runs}
 use Rattle.layout.specs.Reading.{success}
-use Rattle.layout.specs.Writing.{sized, sizedAll, encodeMessage, allWellFormed, split, sum, write, writeNames}
+use Rattle.layout.specs.Writing.{sized, sizedAll, encodeMessage, allWellFormed, split, sum, Written as Outcome, write}
 use Rattle.layout.proofs.Tests.{never}
 use Rattle.layout.proofs.Written.{length-sized}
 use Rattle.field.specs.declared.Cursor.{Cursor}
@@ -34,7 +33,7 @@ use Rattle.names_writer.specs.Readdir.{namePieces, storeNames}
 
 concat-pieces : (ss : List (List ℕ)) → concat (namePieces ss) ≡ sizedAll ss
 concat-pieces [] = refl
-concat-pieces (s ∷ ss) = sym (append-assoc (bytesOf 4 (length s)) s (concat (namePieces ss))) ∙ ap (λ (e : List ℕ). sized s ++ e) (concat-pieces ss)
+concat-pieces (s ∷ ss) = ap (λ (e : List ℕ). sized s ++ e) (concat-pieces ss)
 
 count-split : (ns s : List ℕ) → length (split ns s) ≡ length ns
 count-split [] s = refl
@@ -53,47 +52,54 @@ size-split (n ∷ ns) s h =
 
 -- ---- the message
 
-module _ (i : ℕ) (z : ℤ) (ns s : List ℕ) where
+module _ (i : ℕ) (z : ℤ) where
   -- its pieces: header, result, count and names
-  abbrev pub replyPieces : List (List ℕ)
-  replyPieces = bytesOf 4 i ∷ bytesOf 1 (replyNumber Readdir) ∷ bytesOf 4 (bitsOf 4 z) ∷ bytesOf 4 (length ns % 256 ^ 4) ∷ namePieces (split ns s)
+  abbrev pub replyPieces : ℕ → List (List ℕ) → List (List ℕ)
+  replyPieces count names = (bytesOf 4 i ++ bytesOf 1 (replyNumber Readdir)) ∷ bytesOf 4 (bitsOf 4 z) ∷ bytesOf 4 count ∷ names
 
-  pieces-encode : concat replyPieces ≡ encodeMessage reply success i (replyNumber Readdir) (signed z ∷ runs (split ns s) ∷ [])
-  unfolding encodeMessage plan ofReply
-  pieces-encode =
-      rw (remainder 4 (length ns), concat-pieces (split ns s), count-split ns s, append-nil (bytesOf 4 (length ns) ++ sizedAll (split ns s)))
+  module _ (ss : List (List ℕ)) (count : ℕ) (names : List (List ℕ)) (counted : bytesOf 4 count ≡ bytesOf 4 (length ss)) (bytes : concat names ≡ sizedAll ss) where
+    pieces-encode : concat (replyPieces count names) ≡ encodeMessage reply success i (replyNumber Readdir) (signed z ∷ runs ss ∷ [])
+    unfolding encodeMessage plan ofReply
+    pieces-encode =
+        rw (counted, bytes, append-nil (bytesOf 4 (length ss) ++ sizedAll ss), append-assoc (bytesOf 4 i) (bytesOf 1 (replyNumber Readdir)) (bytesOf 4 (bitsOf 4 z) ++ (bytesOf 4 (length ss) ++ sizedAll ss)))
 
-  pieces-size : sum ns ≡ length s → length s + 4 * length ns + 13 ≡ length (concat replyPieces)
-  pieces-size e = simp (concat-pieces, length-append, length-bytesOf) (omega (arith, size-split ns s (omega arith)))
+    pieces-size : length (sizedAll ss) + 13 ≡ length (concat (replyPieces count names))
+    pieces-size = rw bytes (simp (length-append, length-bytesOf) (omega arith))
 
-  -- the pieces were stored from where they were admitted
-  pub names-wrote : {l n : List ℕ} {c f : Cursor} {r : Written} {ok : Bool} → sum ns ≡ length s → ok ≡ allWellFormed (split ns s)
-      → c ≡ admitted ok (length s + 4 * length ns + 13) (length l) → Puts l c replyPieces n f → Ends f r → Wrote (storeNames i z (split ns s) l) n r
-  names-wrote {l} {n} {c} {f} e texts start q end =
-      let m : List ℕ = encodeMessage reply success i (replyNumber Readdir) (signed z ∷ runs (split ns s) ∷ []) in
-      let from : c ≡ admitted (allWellFormed (split ns s)) (length m) (length l) =
-      start ∙ ap₂ (λ (b : Bool) (k : ℕ). admitted b k (length l)) texts (pieces-size e ∙ ap length pieces-encode) in
-      wrote end (allWellFormed (split ns s)) m pieces-encode (subst (λ (d : Cursor). Puts l d replyPieces n f) from q)
+    -- the pieces were stored from where they were admitted
+    pub pieces-wrote : {l n : List ℕ} {c f : Cursor} {r : Written} {ok : Bool} {size : ℕ} → ok ≡ allWellFormed ss → size ≡ length (sizedAll ss) + 13
+        → c ≡ admitted ok size (length l) → Puts l c (replyPieces count names) n f → Ends f r → Wrote (storeNames i z ss l) n r
+    pieces-wrote {l} {n} {c} {f} texts long start q end =
+        let m : List ℕ = encodeMessage reply success i (replyNumber Readdir) (signed z ∷ runs ss ∷ []) in
+        let from : c ≡ admitted (allWellFormed ss) (length m) (length l) =
+        start ∙ ap₂ (λ (b : Bool) (k : ℕ). admitted b k (length l)) texts (long ∙ pieces-size ∙ ap length pieces-encode) in
+        wrote end (allWellFormed ss) m pieces-encode (subst (λ (d : Cursor). Puts l d (replyPieces count names) n f) from q)
+
+  -- names given as one run and a list of lengths, stored one after another
+  pub names-wrote : (ns s : List ℕ) {l n : List ℕ} {c f : Cursor} {r : Written} {ok : Bool} → sum ns ≡ length s → ok ≡ allWellFormed (split ns s)
+      → c ≡ admitted ok (length s + 4 * length ns + 13) (length l) → Puts l c (replyPieces (length ns % 256 ^ 4) (namePieces (split ns s))) n f → Ends f r
+      → Wrote (storeNames i z (split ns s) l) n r
+  names-wrote ns s e texts start q end =
+      pieces-wrote (split ns s) (length ns % 256 ^ 4) (namePieces (split ns s)) (remainder 4 (length ns) ∙ ap (bytesOf 4) (sym (count-split ns s))) (concat-pieces (split ns s)) texts (omega (arith, size-split ns s (omega arith))) start q end
 
 -- ---- the checks in front
 
-and-true : (b : Bool) → b ≡ b && true
-and-true true = refl
-and-true false = refl
+module _ (i : ℕ) (ss : List (List ℕ)) (l : List ℕ) where
+  abbrev writing : ℤ → Bool → Outcome
+  writing z summed = write reply success i (replyNumber Readdir) (signed z ∷ runs ss ∷ []) summed l
 
-module _ (i : ℕ) (ns s l : List ℕ) where
-  pub sign-refused : (z : ℤ) → ltZ z (pos 0) ≡ true → Wrote (writeNames i z ns s l) l (Refused 8 0)
-  unfolding writeNames write plan ofReply
-  sign-refused (negsuc x) h = record { tells = refl; leaves = refl }
-  sign-refused (pos x) h = let none : ⊥ = omega (arith, ltb-true x 0 h) in absurd none
+  pub sign-refused : (z : ℤ) (summed : Bool) → ltZ z (pos 0) ≡ true → Wrote (writing z summed) l (Refused 8 0)
+  unfolding write plan ofReply
+  sign-refused (negsuc x) summed h = record { tells = refl; leaves = refl }
+  sign-refused (pos x) summed h = let none : ⊥ = omega (arith, ltb-true x 0 h) in absurd none
 
-  pub lengths-refused : (z : ℤ) → ltZ z (pos 0) ≡ false → eqb (sum ns) (length s) ≡ false → Wrote (writeNames i z ns s l) l (Refused 9 0)
-  unfolding writeNames write plan ofReply
-  lengths-refused (pos x) h e = rw e (record { tells = refl; leaves = refl })
-  lengths-refused (negsuc x) h e = never (sym h)
+  pub sum-refused : (z : ℤ) {summed : Bool} → ltZ z (pos 0) ≡ false → summed ≡ false → Wrote (writing z summed) l (Refused 9 0)
+  unfolding write plan ofReply
+  sum-refused (pos x) h e = rw e (record { tells = refl; leaves = refl })
+  sum-refused (negsuc x) h e = never (sym h)
 
-  pub lengths-right : (z : ℤ) → ltZ z (pos 0) ≡ false → eqb (sum ns) (length s) ≡ true → {n : List ℕ} {r : Written}
-      → Wrote (storeNames i z (split ns s) l) n r → Wrote (writeNames i z ns s l) n r
-  unfolding writeNames write plan ofReply
-  lengths-right (pos x) h e w = rw (e, ← (and-true (allWellFormed (split ns s)))) w
-  lengths-right (negsuc x) h e w = never (sym h)
+  pub checks-right : (z : ℤ) {summed : Bool} → ltZ z (pos 0) ≡ false → summed ≡ true → {n : List ℕ} {r : Written} → Wrote (storeNames i z ss l) n r
+      → Wrote (writing z summed) n r
+  unfolding write plan ofReply
+  checks-right (pos x) h e w = rw (e, and-true (allWellFormed ss)) w
+  checks-right (negsuc x) h e w = never (sym h)

@@ -1,19 +1,18 @@
 -- Names of a message taken one after another, as loops take them. Assumes nothing.
 use mathlib.Core.Path.{_≡_, refl, sym, ap, ap₂, _∙_}
-use mathlib.Core.Bool.{Bool, true, false, cond}
 use mathlib.Core.List.{List, [], _∷_, map}
 use Prim.Native.Nat.{ℕ, zero, suc, _+_, _-_, _≤_, _<_}
 use native.Mathlib.Omega.{arith}
-use lib.Dec.{leb}
 use lib.ListN.{length, length-append}
-use borrow.Author.Tests.{le-leb, lt-leb, leb-true}
+use borrow.Author.Tests.{le-leb, lt-leb}
 use Rattle.number.specs.BigEndian.{whole, truncated, numberAt}
 use Rattle.layout.specs.Values.{Part, part, bytesIn}
-use Rattle.layout.specs.Reading.{Outcome, got, fail, followed, anyBytes, numAt, runAt, bytesAt}
+use Rattle.layout.specs.Reading.{Outcome, got, fail, anyBytes, numAt, runAt, bytesAt}
 use Rattle.layout.specs.Names.{position, stepped, step, gather, steps}
 use Rattle.layout.specs.Writing.{sum}
 use Rattle.layout.proofs.Tests.{apart}
 use Rattle.layout.proofs.Agreement.{part-length}
+use Rattle.layout.proofs.Trace.{SizedHere, sized-here, sized-traced}
 use Rattle.layout.proofs.Iterating.{stays-ended}
 use Rattle.store.specs.Stored.{concat}
 use Rattle.names_writer.specs.declared.Next.the-variants.{Name, End}
@@ -39,24 +38,16 @@ module _ (m : List ℕ) (p : ℕ) where
 -- the name x stands at p, inside the message, and the next begins at q
 pub record NameHere (m : List ℕ) (p : ℕ) (x : Part) (q : ℕ) : Type 0 where
   pub is : bytesAt m p ≡ got x q
+  pub here : SizedHere anyBytes m p x
+  pub begins : x .start ≡ p + 4
   pub fits : x .start + x .size ≤ length m
   pub behind : q ≡ x .start + x .size
 
 pub name-here : (m : List ℕ) (p : ℕ) {x : Part} {q : ℕ} → bytesAt m p ≡ got x q → NameHere m p x q
-unfolding runAt
-name-here m p {x} {q} e = record { is = e; fits = go (numAt 4 m p) e .0; behind = go (numAt 4 m p) e .1 }
+name-here m p {x} {q} e = let t = sized-traced e in from (t .0) (t .1) e
   where
-    test : (n r : ℕ) (b : Bool) → leb (r + n) (length m) ≡ b → cond b (got (part r n) (r + n)) (fail 4 r) ≡ got x q → (x .start + x .size ≤ length m) × (q ≡ x .start + x .size)
-    test n r true h e =
-        let s : r ≡ x .start = cc in
-        let z : n ≡ x .size = cc in
-        let b : r + n ≡ q = cc in
-        (omega (arith, leb-true (r + n) (length m) h), omega arith)
-    test n r false h e = let z : _≡_ {A = ℕ} 0 1 = cc in apart z
-
-    go : (o : Outcome ℕ) → followed o (λ n r. runAt anyBytes n m r) ≡ got x q → (x .start + x .size ≤ length m) × (q ≡ x .start + x .size)
-    go (got n r) e = test n r (leb (r + n) (length m)) refl e
-    go (fail c r) e = let z : _≡_ {A = ℕ} 0 1 = cc in apart z
+    from : {y : Part} → SizedHere anyBytes m p y → q ≡ p + 4 + y .size → bytesAt m p ≡ got y q → NameHere m p y q
+    from (sized-here h r) at is = record { is = is; here = sized-here h r; begins = refl; fits = r .fits; behind = at }
 
 -- the next name as the code has it
 pub name-given : (m : List ℕ) (p : ℕ) {s n : ℕ} → Name s n ≡ nextOf (bytesAt m p) → NameHere m p (part s n) (s + n)
@@ -69,7 +60,7 @@ name-given m p {s} {n} e = go (bytesAt m p) refl e
         let b : n ≡ x .size = cc in
         let c : s + n ≡ q = omega arith in
         let same : x ≡ part s n = λ i. part (sym a i) (sym b i) in
-        record { is = f ∙ (λ i. got (same i) (sym c i)); fits = omega arith; behind = refl }
+        name-here m p (f ∙ (λ i. got (same i) (sym c i)))
     go (fail c r) f e = let z : _≡_ {A = ℕ} 0 1 = cc in apart z
 
 -- ---- the names from a place on

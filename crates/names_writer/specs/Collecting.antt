@@ -5,25 +5,25 @@ use mathlib.Core.Bool.{_&&_, cond}
 use mathlib.Core.List.{List, _++_, map}
 use lib.Dec.{leb}
 use lib.ListN.{length, drop}
+use Rattle.layout.specs.Limits.{bufferTooSmall}
 use Rattle.layout.specs.Values.{Part, bytesIn}
 use Rattle.layout.specs.Reading.{Outcome, got, fail}
-use Rattle.layout.specs.Names.{position, steps}
+use Rattle.layout.specs.Names.{position, firstName, steps}
 use Rattle.layout.specs.Writing.{sum}
-use Rattle.field.specs.declared.Names.{Names}
 use Rattle.store.specs.Stored.{concat}
 use Rattle.names_writer.specs.declared.Next.{Next}
 use Rattle.names_writer.specs.declared.Next.the-variants.{Name, End}
 use Rattle.names_writer.specs.declared.Collected.{Collected}
-use Rattle.names_writer.specs.declared.Collected.the-variants.{Copied, NoRoom}
+use Rattle.names_writer.specs.declared.Collected.the-variants.{Copied, Refused}
 
 -- the name that was read at a place, or none
 abbrev pub nextOf : Outcome Part → Next
 nextOf (got x q) = Name (x .start) (x .size)
 nextOf (fail n p) = End
 
--- the names that the iterator gives from the first of these on
-abbrev pub namesIn : List ℕ → Names → List Part
-namesIn m ns = steps (ns .count) m (position (ns .start) (ns .count))
+-- the names that the iterator gives where so many are left
+abbrev pub namesIn : List ℕ → ℕ → List Part
+namesIn m n = steps n m (position firstName n)
 
 -- the lengths of names
 abbrev pub sizes : List Part → List ℕ
@@ -33,9 +33,13 @@ sizes xs = map (λ x. x .size) xs
 abbrev pub joined : List ℕ → List Part → List ℕ
 joined m xs = concat (map (bytesIn m) xs)
 
+-- a lent buffer is too small
+abbrev pub noRoom : Collected
+noRoom = Refused bufferTooSmall 0
+
 -- what collecting names of these lengths answers, with room for `room` bytes and `most` lengths
 unfoldable pub counted : List ℕ → ℕ → ℕ → Collected
-counted ns room most = cond (leb (sum ns) room && leb (length ns) most) (Copied (length ns) (sum ns)) NoRoom
+counted ns room most = cond (leb (sum ns) room && leb (length ns) most) (Copied (length ns) (sum ns)) noRoom
 
 -- both lent buffers
 pub record Buffers : Type 0 where
@@ -45,10 +49,10 @@ pub record Buffers : Type 0 where
 abbrev pub buffers : List ℕ → List ℕ → Buffers
 buffers s ns = record { run = s; lengths = ns }
 
--- the names xs of m in front of what stays of the buffers; without room, these are as before
+-- the names xs of m in front of what stays of the buffers; of a refusal, these are as before
 abbrev pub filled : List ℕ → List Part → Buffers → Collected → Buffers
 filled m xs b (Copied count len) = buffers (joined m xs ++ drop len (b .run)) (sizes xs ++ drop count (b .lengths))
-filled m xs b NoRoom = b
+filled m xs b (Refused n p) = b
 
 -- the names xs of m were collected into b: the answer is r, and the buffers are d
 pub record Collects (m : List ℕ) (xs : List Part) (b d : Buffers) (r : Collected) : Type 0 where

@@ -2,20 +2,18 @@
 use Prim.Native.Nat.{ℕ}
 use mathlib.Core.List.{List, [], _∷_}
 use lib.IntN.{ℤ}
-use lib.ListN.{length}
-use Rattle.number.specs.BigEndian.{bytesOf}
 use Rattle.method.specs.declared.Method.the-variants.{Readdir}
 use Rattle.method.specs.Methods.{replyNumber}
 use Rattle.layout.specs.Limits.{malformedText}
 use Rattle.layout.specs.Table.{reply}
 use Rattle.layout.specs.Values.{signed, runs}
 use Rattle.layout.specs.Reading.{success}
-use Rattle.layout.specs.Writing.{encodeMessage, allWellFormed, Written, check, storeChecked}
+use Rattle.layout.specs.Writing.{sized, encodeMessage, allWellFormed, Written, check, storeChecked}
 
--- the length of each name, and its bytes
+-- each name: its length, and its bytes
 abbrev pub namePieces : List (List ℕ) → List (List ℕ)
 namePieces [] = []
-namePieces (s ∷ ss) = bytesOf 4 (length s) ∷ s ∷ namePieces ss
+namePieces (s ∷ ss) = sized s ∷ namePieces ss
 
 -- what is left of layout's `writeNames` once the sign and the lengths are right, as the law `lengths-right` shows
 abbrev pub storeNames : ℕ → ℤ → List (List ℕ) → List ℕ → Written

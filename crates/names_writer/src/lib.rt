@@ -3,17 +3,24 @@
 ghost use mathlib.Core.Path.{_≡_};
 ghost use lib.Dec.{eqb};
 ghost use lib.ListN.{length};
+ghost use Prim.Native.Nat.{_≤_};
+ghost use Rattle.layout.specs.Limits.{longest};
 ghost use Rattle.layout.specs.Reading.{bytesAt};
 ghost use Rattle.layout.specs.Writing.{allWellFormed, split, sum, writeNames};
 ghost use Rattle.store.specs.Stored.{Puts};
 ghost use Rattle.writer.specs.Writers.{Wrote};
 ghost use Rattle.names_writer.specs.Readdir.{namePieces, storeNames};
-ghost use Rattle.names_writer.specs.Collecting.{namesIn, nextOf, sizes, counted, buffers, Collects, RoomFor, Copies};
+ghost use Rattle.names_writer.specs.Collecting.{namesIn, nextOf, sizes, noRoom, counted, buffers, Collects, RoomFor, Copies};
 use field::Cursor;
-use field::Names;
 use method::Method;
 use number::ReadU32;
 use writer::Written;
+
+// Document 01's refusal of a lent buffer that is too small.
+const BUFFER_TOO_SMALL: u8 = 7;
+
+// Where the first name of a readdir reply stands: behind header, result and count.
+pub const FIRST_NAME: usize = 13;
 
 // The success reply of readdir: `names` are the names one behind the other, `lengths` the length of each.
 pub fn write_readdir(id: u32, result: i32, names: &[u8], lengths: &[u32], out: &mut [u8]) -> Written
@@ -89,9 +96,9 @@ fn are_texts(names: &[u8], lengths: &[u32]) -> bool
 }
 
 // Each name: its length, then its bytes.
-// Asks that the lengths sum to the run, as `write_summed` does.
+// Asks that the lengths sum to the run, as `write_summed` does, and that it is no longer than the longest message: `admit` has tested it.
 fn put_names(out: &mut [u8], c: Cursor, names: &[u8], lengths: &[u32]) -> Cursor
-    requires { ⌜ sum (now lengths) ≡ length (now names) ⌝ }
+    requires { ⌜ (sum (now lengths) ≡ length (now names)) × (c .code ≡ 0 → length (now names) ≤ longest) ⌝ }
     ensures { λ r. ⌜ Puts (now (out .entry)) c (namePieces (split (now (lengths .entry)) (now (names .entry)))) (now (out .exit)) r ⌝ }
 {
     let mut next = c;
@@ -107,64 +114,81 @@ fn put_names(out: &mut [u8], c: Cursor, names: &[u8], lengths: &[u32]) -> Cursor
     next
 }
 
-// What collecting names answers: so many names with so many bytes in all were copied, or a lent buffer is too short for them.
+// What collecting names answers: so many names with so many bytes in all were copied, or document 01's number of refusal, with its
+// place, where a lent buffer is too small for them.
 pub enum Collected {
     Copied { count: usize, len: usize },
-    NoRoom,
+    Refused { number: u8, place: usize },
 }
 
-// The names that stand in a readdir reply, as `write_readdir` takes them: their bytes as one run, and their lengths. The room is
-// looked at before the first is copied. A name that does not fit into the message ends the names, so made-up ones do no harm.
-pub fn collect_names(m: &[u8], names: Names, run: &mut [u8], lengths: &mut [u32]) -> Collected
-    ensures { λ r. ⌜ Collects (now (m .entry)) (namesIn (now (m .entry)) names) (buffers (now (run .entry)) (now (lengths .entry))) (buffers (now (run .exit)) (now (lengths .exit))) r ⌝ }
+// The names that stand in a readdir reply, as `write_readdir` takes them: their bytes as one run, and their lengths. `count` is the
+// reader's. The room is looked at before the first is copied. A name that does not fit into the message ends the names, so a count
+// that was made up does no harm.
+pub fn collect_names(m: &[u8], count: u32, run: &mut [u8], lengths: &mut [u32]) -> Collected
+    ensures { λ r. ⌜ Collects (now (m .entry)) (namesIn (now (m .entry)) count) (buffers (now (run .entry)) (now (lengths .entry))) (buffers (now (run .exit)) (now (lengths .exit))) r ⌝ }
 {
-    let answer = count_names(m, names, run.len(), lengths.len());
+    let answer = count_names(m, count, run.len(), lengths.len());
     match answer {
-        Collected::Copied { count, len } => {
-            copy_names(m, names, run, lengths);
-            Collected::Copied { count, len }
+        Collected::Copied { count: copied, len } => {
+            copy_names(m, count, run, lengths);
+            Collected::Copied { count: copied, len }
         }
-        Collected::NoRoom => Collected::NoRoom,
+        Collected::Refused { number, place } => Collected::Refused { number, place },
     }
 }
 
 // What collecting will answer, with room for `room` bytes and `most` lengths.
-fn count_names(m: &[u8], names: Names, room: usize, most: usize) -> Collected
-    ensures { λ r. ⌜ r ≡ counted (sizes (namesIn (now (m .entry)) names)) room most ⌝ }
+fn count_names(m: &[u8], count: u32, room: usize, most: usize) -> Collected
+    ensures { λ r. ⌜ r ≡ counted (sizes (namesIn (now (m .entry)) count)) room most ⌝ }
 {
-    let mut at = names.start;
-    let mut left = names.count;
-    let mut count = 0;
+    let mut at = FIRST_NAME;
+    let mut left = count;
+    let mut done = 0;
     let mut total = 0;
     while 0 < left {
         let next = name_at(m, at);
         let Next::Name { start, len } = next else {
-            return Collected::Copied { count, len: total };
+            return Collected::Copied {
+                count: done,
+                len: total,
+            };
         };
         let len = len as usize;
-        if most <= count {
-            return Collected::NoRoom;
+        if most <= done {
+            return no_room();
         }
         if room - total < len {
-            return Collected::NoRoom;
+            return no_room();
         }
         at = start + len;
         left -= 1;
-        count += 1;
+        done += 1;
         total += len;
     }
-    Collected::Copied { count, len: total }
+    Collected::Copied {
+        count: done,
+        len: total,
+    }
+}
+
+fn no_room() -> Collected
+    ensures { λ r. ⌜ r ≡ noRoom ⌝ }
+{
+    Collected::Refused {
+        number: BUFFER_TOO_SMALL,
+        place: 0,
+    }
 }
 
 // Copies the names. There is room for them.
 // Asks for that room: `count_names` has tested it.
-fn copy_names(m: &[u8], names: Names, run: &mut [u8], lengths: &mut [u32])
-    requires { ⌜ RoomFor (sizes (namesIn (now m) names)) (buffers (now run) (now lengths)) ⌝ }
-    ensures { λ _. ⌜ Copies (now (m .entry)) (namesIn (now (m .entry)) names) (buffers (now (run .entry)) (now (lengths .entry))) (buffers (now (run .exit)) (now (lengths .exit))) ⌝ }
+fn copy_names(m: &[u8], count: u32, run: &mut [u8], lengths: &mut [u32])
+    requires { ⌜ RoomFor (sizes (namesIn (now m) count)) (buffers (now run) (now lengths)) ⌝ }
+    ensures { λ _. ⌜ Copies (now (m .entry)) (namesIn (now (m .entry)) count) (buffers (now (run .entry)) (now (lengths .entry))) (buffers (now (run .exit)) (now (lengths .exit))) ⌝ }
 {
     let mut behind = Cursor { code: 0, at: 0 };
-    let mut at = names.start;
-    let mut left = names.count;
+    let mut at = FIRST_NAME;
+    let mut left = count;
     let mut done = 0;
     while 0 < left {
         let next = name_at(m, at);
@@ -181,13 +205,13 @@ fn copy_names(m: &[u8], names: Names, run: &mut [u8], lengths: &mut [u32])
 }
 
 // A name of the message: where its bytes begin, and how many they are. Or none, where it does not fit into the message.
-enum Next {
+pub enum Next {
     Name { start: usize, len: u32 },
     End,
 }
 
 // The name whose length stands at `at`.
-fn name_at(m: &[u8], at: usize) -> Next
+pub fn name_at(m: &[u8], at: usize) -> Next
     ensures { λ r. ⌜ r ≡ nextOf (bytesAt (now (m .entry)) at) ⌝ }
 {
     let read = number::read_u32(m, at);

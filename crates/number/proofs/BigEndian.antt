@@ -10,7 +10,7 @@ use lib.Dec.{leb, lit<}
 use lib.ListN.{length, getD, take, drop, length-append, length-drop}
 use lib.Seq.{take-at, drop-at, length-take-le}
 use borrow.Author.Tests.{le-leb, lt-leb, leb-true}
-use Rattle.number.specs.BigEndian.{be, beAfter, bytesOf, Bytes, whole, truncated, numberAt, overwritten}
+use Rattle.number.specs.BigEndian.{be, beAfter, bytesOf, Bytes, whole, truncated, numberAt, overwritten, Stores}
 
 pub pow256 : (w : ℕ) → 0 < 256 ^ w
 pow256 zero = lit< tt
@@ -113,3 +113,15 @@ whole-fits w s at {x} e = go (leb (at + w) (length s)) refl e
     go : (t : Bool) → leb (at + w) (length s) ≡ t → whole x ≡ cond t (whole (be (take w (drop at s)))) truncated → (at + w ≤ length s) × (x ≡ be (take w (drop at s)))
     go true h e = (leb-true (at + w) (length s) h, cc)
     go false h e = let z : _≡_ {A = ℕ} 0 1 = cc in let none : ⊥ = omega arith in absurd none
+
+-- ---- stores
+
+pub stores-none : (w : ℕ) (l : List ℕ) (at x : ℕ) → length l < at + w → Stores w l at x l false
+stores-none w l at x h = record { fits = sym (lt-leb (at + w) (length l) h); leaves = refl }
+
+pub stores-all : (w : ℕ) (l : List ℕ) {m : List ℕ} (at x : ℕ) → at + w ≤ length l → m ≡ overwritten l at (bytesOf w x) → Stores w l at x m true
+stores-all w l at x h e = record { fits = sym (le-leb (at + w) (length l) h); leaves = e }
+
+-- what was stored had room
+pub stored-fits : {w : ℕ} {l m : List ℕ} {at x : ℕ} → Stores w l at x m true → at + w ≤ length l
+stored-fits {w} {l} {at = at} s = leb-true (at + w) (length l) (sym (s .fits))

@@ -1,6 +1,7 @@
 -- Big-endian numbers: the most significant byte first. One definition for every width w, in bytes.
 use Prim.Native.Nat.{ℕ, zero, suc, _+_, _*_, _/_, _%_, _^_, _<_}
-use mathlib.Core.Bool.{cond}
+use mathlib.Core.Path.{_≡_}
+use mathlib.Core.Bool.{Bool, cond}
 use mathlib.Core.List.{List, [], _∷_, _++_}
 use lib.Dec.{leb}
 use lib.ListN.{length, getD, take, drop}
@@ -35,3 +36,8 @@ numberAt w s at = cond (leb (at + w) (length s)) (whole (be (take w (drop at s))
 -- the list with the bytes bs from place at instead of as many of its own
 unfoldable pub overwritten : List ℕ → ℕ → List ℕ → List ℕ
 overwritten l at bs = take at l ++ bs ++ drop (at + length bs) l
+
+-- storing the w bytes of x at place at of l left m and answered r: true where they fit; else nothing was stored
+pub record Stores (w : ℕ) (l : List ℕ) (at x : ℕ) (m : List ℕ) (r : Bool) : Type 0 where
+  pub fits : r ≡ leb (at + w) (length l)
+  pub leaves : m ≡ cond r (overwritten l at (bytesOf w x)) l

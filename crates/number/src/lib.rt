@@ -4,7 +4,7 @@ ghost use mathlib.Core.Path.{_≡_};
 ghost use mathlib.Core.List.{[], _∷_};
 ghost use Prim.Native.Nat.{_+_, _≤_};
 ghost use lib.ListN.{length, take, drop};
-ghost use Rattle.number.specs.BigEndian.{be, beAfter, bytesOf, numberAt, overwritten};
+ghost use Rattle.number.specs.BigEndian.{be, beAfter, bytesOf, numberAt, overwritten, Stores};
 ghost use Rattle.number.specs.TwosComplement.{signedOf, bitsOf};
 ghost use Rattle.number.specs.Answers.{foundU8, foundU32, foundU64};
 
@@ -105,16 +105,56 @@ fn join8(a: u8, b: u8, c: u8, d: u8, e: u8, f: u8, g: u8, h: u8) -> u64
         + h as u64
 }
 
-// `x` in the byte at `at`. The caller has tested that there is room.
-pub fn store_u8(out: &mut [u8], at: usize, x: u8)
+// `x` in the byte at `at`: true where it was stored. Where it does not fit, nothing is stored.
+pub fn store_u8(out: &mut [u8], at: usize, x: u8) -> bool
+    ensures { λ r. ⌜ Stores 1 (now (out .entry)) at x (now (out .exit)) r ⌝ }
+{
+    if out.len() <= at {
+        return false;
+    }
+    set_u8(out, at, x);
+    true
+}
+
+// `x` in the 4 bytes from `at`.
+pub fn store_u32(out: &mut [u8], at: usize, x: u32) -> bool
+    ensures { λ r. ⌜ Stores 4 (now (out .entry)) at x (now (out .exit)) r ⌝ }
+{
+    let room = out.len();
+    if room < 4 {
+        return false;
+    }
+    if room - 4 < at {
+        return false;
+    }
+    set_u32(out, at, x);
+    true
+}
+
+// `x` in the 8 bytes from `at`.
+pub fn store_u64(out: &mut [u8], at: usize, x: u64) -> bool
+    ensures { λ r. ⌜ Stores 8 (now (out .entry)) at x (now (out .exit)) r ⌝ }
+{
+    let room = out.len();
+    if room < 8 {
+        return false;
+    }
+    if room - 8 < at {
+        return false;
+    }
+    set_u64(out, at, x);
+    true
+}
+
+// The stores themselves. Each asks for its room, which the function above it has tested.
+fn set_u8(out: &mut [u8], at: usize, x: u8)
     requires { ⌜ at + 1 ≤ length (now out) ⌝ }
     ensures { λ _. ⌜ now (out .exit) ≡ overwritten (now (out .entry)) at (bytesOf 1 x) ⌝ }
 {
     out[at] = x;
 }
 
-// `x` in the 4 bytes from `at`.
-pub fn store_u32(out: &mut [u8], at: usize, x: u32)
+fn set_u32(out: &mut [u8], at: usize, x: u32)
     requires { ⌜ at + 4 ≤ length (now out) ⌝ }
     ensures { λ _. ⌜ now (out .exit) ≡ overwritten (now (out .entry)) at (bytesOf 4 x) ⌝ }
 {
@@ -124,8 +164,7 @@ pub fn store_u32(out: &mut [u8], at: usize, x: u32)
     out[at + 3] = (x / 1 % 256) as u8;
 }
 
-// `x` in the 8 bytes from `at`.
-pub fn store_u64(out: &mut [u8], at: usize, x: u64)
+fn set_u64(out: &mut [u8], at: usize, x: u64)
     requires { ⌜ at + 8 ≤ length (now out) ⌝ }
     ensures { λ _. ⌜ now (out .exit) ≡ overwritten (now (out .entry)) at (bytesOf 8 x) ⌝ }
 {

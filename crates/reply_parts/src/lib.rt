@@ -5,7 +5,7 @@ ghost use Prim.Native.Nat.{ℕ};
 ghost use lib.IntN.{ℤ};
 ghost use Rattle.layout.specs.Table.{reply as reply·side};
 ghost use Rattle.layout.specs.Parts.{partNamed};
-ghost use Rattle.field.specs.Cursors.{partOf, shown};
+ghost use Rattle.field.specs.Cursors.{partOf, Shows};
 ghost use Rattle.reply_reader.specs.Answers.{answerOf};
 ghost use Rattle.reply_parts.specs.Parts.{partsOf, partsNamed, partsOfReply, onlyResolved, onlyData, onlyCreds, noParts};
 use field::Run;
@@ -107,21 +107,21 @@ fn runs_of(m: &[u8], answer: ReplyAnswer) -> Runs
 // The bytes of the text and of the data, as a part of the message that was answered so. A message without that field, and one that
 // was refused, gives the empty part.
 pub fn resolved<'a>(m: &'a [u8], answer: ReplyAnswer) -> &'a [u8]
-    ensures { λ s. ⌜ now s ≡ shown (now (m .entry)) (partNamed reply·side "resolved" (answerOf (now (m .entry)) answer)) ⌝ }
+    ensures { λ s. ⌜ Shows (m .entry) (partNamed reply·side "resolved" (answerOf (now (m .entry)) answer)) s ⌝ }
 {
     let runs = runs_of(m, answer);
     field::bytes_of(m, runs.resolved)
 }
 
 pub fn data<'a>(m: &'a [u8], answer: ReplyAnswer) -> &'a [u8]
-    ensures { λ s. ⌜ now s ≡ shown (now (m .entry)) (partNamed reply·side "data" (answerOf (now (m .entry)) answer)) ⌝ }
+    ensures { λ s. ⌜ Shows (m .entry) (partNamed reply·side "data" (answerOf (now (m .entry)) answer)) s ⌝ }
 {
     let runs = runs_of(m, answer);
     field::bytes_of(m, runs.data)
 }
 
 pub fn creds<'a>(m: &'a [u8], answer: ReplyAnswer) -> &'a [u8]
-    ensures { λ s. ⌜ now s ≡ shown (now (m .entry)) (partNamed reply·side "creds" (answerOf (now (m .entry)) answer)) ⌝ }
+    ensures { λ s. ⌜ Shows (m .entry) (partNamed reply·side "creds" (answerOf (now (m .entry)) answer)) s ⌝ }
 {
     let runs = runs_of(m, answer);
     field::bytes_of(m, runs.creds)

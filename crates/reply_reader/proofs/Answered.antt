@@ -56,7 +56,7 @@ pub answered-counted : {m : List ℕ} {c d e : Cursor} {i n t size : ℕ} {q : R
 unfolding successAt
 answered-counted {m = m} {c = c} {d = d} {e = e} {i = i} {n = n} {t = t} {q = q} {ks = ks} f s p r k z =
     let all : Body = body success (signed (pos n) ∷ valuesOf m q) in
-    let after : Ended m d (succeeded true n (valuesOf m q)) all e = record { is = rw z (k .is all) } in
+    let after : Ended m d (succeeded true n (valuesOf m q)) all all e = record { is = rw z (k .is all); empty = λ h. refl } in
     rw p
     (f .is
     ∙ rw s

@@ -12,9 +12,10 @@ use Rattle.layout.specs.Limits.{unexpectedType, dataLengthMismatch}
 use Rattle.layout.specs.Table.{unknownResponse, reply, Plan, unexpected, header, asked, plain, led, plan}
 use Rattle.layout.specs.Values.{Part, Value, number, signed, run, runs}
 use Rattle.layout.specs.Reading.{Outcome, got, fail, Reader, mapped, unknown, failure, success, Body, body, behindResult, typePlace, bodyAt, message, Answer, refused, accepted, answer, resultPlace}
+use Rattle.layout.specs.Names.{firstName, namesAt}
 use Rattle.field.specs.declared.Cursor.{Cursor}
 use Rattle.field.specs.Cursors.{outcome, from, partOf}
-use Rattle.field.specs.Values.{attributesValues, statisticsValues, namesFrom}
+use Rattle.field.specs.Values.{attributesValues, statisticsValues}
 use Rattle.reply_reader.specs.declared.Reply.{Reply}
 use Rattle.reply_reader.specs.declared.Reply.the-variants as R
 use Rattle.reply_reader.specs.declared.ReplyAnswer.{ReplyAnswer}
@@ -39,7 +40,7 @@ methodOf R.Unlink = Unlink
 methodOf (R.Read content) = Read
 methodOf R.Write = Write
 methodOf R.Mkdir = Mkdir
-methodOf (R.Readdir names) = Readdir
+methodOf (R.Readdir count) = Readdir
 methodOf R.Rmdir = Rmdir
 methodOf (R.Statfs statistics) = Statfs
 methodOf R.Utimens = Utimens
@@ -67,7 +68,7 @@ valuesOf m R.Unlink = []
 valuesOf m (R.Read content) = run (partOf content) ∷ []
 valuesOf m R.Write = []
 valuesOf m R.Mkdir = []
-valuesOf m (R.Readdir names) = runs (namesFrom m names) ∷ []
+valuesOf m (R.Readdir count) = runs (namesAt count m firstName) ∷ []
 valuesOf m R.Rmdir = []
 valuesOf m (R.Statfs statistics) = statisticsValues statistics
 valuesOf m R.Utimens = []

@@ -1,20 +1,23 @@
 // The reply reader: the header, the result, then the fields of the method, and one answer.
 ghost use mathlib.Core.Path.{_≡_};
-ghost use Prim.Native.Nat.{_≤_, _<_};
+ghost use Prim.Native.Nat.{_+_, _≤_, _<_};
 ghost use lib.IntN.{pos};
 ghost use Rattle.method.specs.declared.Method.the-variants.{Getattr, Readlink, Open, Create, Read, Readdir, Statfs, Getcreds};
 ghost use Rattle.method.specs.Methods.{replyNumber};
+ghost use Rattle.layout.specs.Kinds.{width, u32};
+ghost use Rattle.layout.specs.Limits.{headerSize};
+ghost use Rattle.layout.specs.Names.{firstName};
 ghost use Rattle.layout.specs.Table.{reply as reply·side};
 ghost use Rattle.layout.specs.Reading.{read, behindHeader};
 ghost use Rattle.reply_reader.specs.Answers.{answerOf, answerAt, successAt, Finished, Compared};
 use field::Attributes;
 use field::Cursor;
-use field::Names;
 use field::Run;
 use field::Statistics;
 use method::Method;
 
-// A successful reply of each method that has a result. Text and data are runs: parts of the message.
+// A successful reply of each method that has a result. Text and data are runs: parts of the message. The names of a readdir reply
+// are in the message (crate `names`); here is how many they are.
 pub enum Reply {
     Access,
     Getattr { attributes: Attributes },
@@ -34,7 +37,7 @@ pub enum Reply {
     Read { data: Run },
     Write,
     Mkdir,
-    Readdir { names: Names },
+    Readdir { count: u32 },
     Rmdir,
     Statfs { statistics: Statistics },
     Utimens,
@@ -141,9 +144,9 @@ fn read_getcreds(m: &[u8], c: Cursor, id: u32) -> ReplyAnswer
 }
 
 // The result, and where it is not negative the fields.
-// Asks for a type that has a result: `read_body` has answered every other.
+// Asks for a type that has a result: `read_body` has answered every other. `c` is behind the header.
 fn read_result(m: &[u8], c: Cursor, id: u32, kind: u8) -> ReplyAnswer
-    requires { ⌜ (0x81 ≤ kind) × (kind ≤ 0x96) ⌝ }
+    requires { ⌜ (0x81 ≤ kind) × (kind ≤ 0x96) × (c .at ≡ headerSize) ⌝ }
     ensures { λ r. ⌜ answerOf (now (m .entry)) r ≡ answerAt (now (m .entry)) c id kind ⌝ }
 {
     let result = field::i32_at(m, c);
@@ -169,9 +172,9 @@ fn read_result(m: &[u8], c: Cursor, id: u32, kind: u8) -> ReplyAnswer
 }
 
 // The fields behind a result that is not negative.
-// Asks for a type that has a result, and for one that is not negative: `read_result` has answered every other.
+// Asks for a type that has a result, and for one that is not negative: `read_result` has answered every other. `c` is behind the result.
 fn read_success(m: &[u8], c: Cursor, id: u32, kind: u8, result: u32) -> ReplyAnswer
-    requires { ⌜ (0x81 ≤ kind) × (kind ≤ 0x96) × (result < 0x8000_0000) ⌝ }
+    requires { ⌜ (0x81 ≤ kind) × (kind ≤ 0x96) × (result < 0x8000_0000) × (c .at + width u32 ≡ firstName) ⌝ }
     ensures { λ r. ⌜ answerOf (now (m .entry)) r ≡ successAt (now (m .entry)) c id kind (pos result) ⌝ }
 {
     match kind {
@@ -304,14 +307,19 @@ fn read_read(m: &[u8], c: Cursor, id: u32, result: u32) -> ReplyAnswer
     finish(m, id, result, Reply::Read { data: run }, next)
 }
 
-// Asks for a result that is not negative, as `read_success` does.
+// Asks for a result that is not negative, and for the place of the count, as `read_success` does.
 fn read_readdir(m: &[u8], c: Cursor, id: u32, result: u32) -> ReplyAnswer
-    requires { ⌜ result < 0x8000_0000 ⌝ }
+    requires { ⌜ (result < 0x8000_0000) × (c .at + width u32 ≡ firstName) ⌝ }
     ensures { λ r. ⌜ answerOf (now (m .entry)) r ≡ successAt (now (m .entry)) c id (replyNumber Readdir) (pos result) ⌝ }
 {
-    let names = field::names_at(m, c);
-    let value = names.value;
-    finish(m, id, result, Reply::Readdir { names: value }, names.next)
+    let count = field::names_at(m, c);
+    finish(
+        m,
+        id,
+        result,
+        Reply::Readdir { count: count.value },
+        count.next,
+    )
 }
 
 // Asks for a result that is not negative, as `read_success` does.

@@ -1,7 +1,7 @@
 -- From the pieces that were stored to the reply that was written. Assumes nothing.
 use mathlib.Core.Path.{_≡_, refl, sym, ap, subst, _∙_}
 use mathlib.Core.Bool.{Bool, true, false, not, cond, _&&_}
-use mathlib.Core.List.{List, [], _∷_, _++_, append-assoc}
+use mathlib.Core.List.{List, [], _∷_, _++_, append-assoc, append-nil}
 use Prim.Native.Nat.{ℕ, suc, _+_, _≤_, _<_}
 use native.Mathlib.Omega.{arith}
 use lib.Dec.{eqb}
@@ -14,7 +14,7 @@ use Rattle.number.specs.TwosComplement.{bitsOf}
 use Rattle.number.proofs.BigEndian.{length-bytesOf}
 use Rattle.text.specs.Utf8.{wellFormed}
 use Rattle.layout.specs.Kinds.{Kind, string}
-use Rattle.layout.specs.Limits.{malformedText, dataLengthMismatch, resultSign}
+use Rattle.layout.specs.Limits.{malformedText, dataLengthMismatch, resultSign, longest}
 use Rattle.layout.specs.Table.{reply, plain, led, plan}
 use Rattle.layout.specs.Values.{Value, signed, run}
 use Rattle.layout.specs.Reading.{failure, success}
@@ -23,10 +23,10 @@ use Rattle.layout.proofs.Tests.{never}
 use Rattle.field.specs.declared.Cursor.{Cursor}
 use Rattle.writer.specs.declared.Written.{Written}
 use Rattle.writer.specs.declared.Written.the-variants.{Refused}
-use Rattle.store.specs.Stored.{refusal, Puts, concat, Fields}
+use Rattle.store.specs.Stored.{refusal, runFrom, Put, Puts, none, more, concat, Fields}
 use Rattle.writer.specs.Writers.{admitted, Ends, Wrote}
-use Rattle.store.proofs.Storing.{puts-then, encodings, concat-encodings, fields-put}
-use Rattle.writer.proofs.Writers.{tested, wrote}
+use Rattle.store.proofs.Storing.{run-within, puts-then, encodings, concat-encodings, fields-put}
+use Rattle.writer.proofs.Writers.{admitted-within, tested, wrote}
 use Rattle.reply_writer.specs.Replying.{allowed, Started}
 
 -- ---- the sign of a result
@@ -55,6 +55,17 @@ module _ (z : ℤ) (size n : ℕ) where
       → cond texts (cond counted (admitted true size n) (refusal dataLengthMismatch)) (refusal malformedText) ≡ allowed z texts counted size n
   unfolding allowed
   admit-other texts counted h = rw h
+
+-- a success that passed these checks is not longer than the longest message
+allowed-size : (z : ℤ) (texts counted : Bool) (size n : ℕ) → allowed z texts counted size n .code ≡ 0 → size ≤ longest
+unfolding allowed
+allowed-size z texts counted size n = go (not (ltZ z (pos 0))) texts counted
+  where
+    go : (a b c : Bool) → cond a (cond b (cond c (admitted true size n) (refusal dataLengthMismatch)) (refusal malformedText)) (refusal resultSign) .code ≡ 0 → size ≤ longest
+    go true true true h = admitted-within true size n refl h
+    go true true false h = let none : ⊥ = omega arith in absurd none
+    go true false c h = let none : ⊥ = omega arith in absurd none
+    go false b c h = let none : ⊥ = omega arith in absurd none
 
 -- ---- a success
 
@@ -90,10 +101,10 @@ succeeds i t z vs {l} {m} {n} {d} {f} {es} {r} {count} {ks} {size} {texts} {coun
     e = led·bytes i t z (encodeAll ks vs)
 
     all : List (List ℕ)
-    all = bytesOf 4 i ∷ bytesOf 1 t ∷ bytesOf 4 (bitsOf 4 z) ∷ es
+    all = (bytesOf 4 i ++ bytesOf 1 t) ∷ bytesOf 4 (bitsOf 4 z) ∷ es
 
     bytes : concat all ≡ e
-    bytes = rw same
+    bytes = rw (same, append-assoc (bytesOf 4 i) (bytesOf 1 t) (bytesOf 4 (bitsOf 4 z) ++ encodeAll ks vs))
 
     stored : Puts l (allowed z texts counted (length e) (length l)) all n f
     stored = subst (λ (k : ℕ). Puts l (allowed z texts counted k (length l)) all n f) (s ∙ sym (led-size i t z (encodeAll ks vs))) (puts-then (start .is) q)
@@ -105,58 +116,71 @@ pub numbers-reply : (vs : List (Value (List ℕ))) {l m n : List ℕ} {d f : Cur
 numbers-reply vs {i = i} {t = t} {z = z} {ks = ks} start end p texts size q =
     succeeds i t z vs start end p texts refl (concat-encodings ks vs) (ap (λ (k : ℕ). 9 + k) size) (fields-put q)
 
+-- a success of numbers behind the result that are stored together
+pub group-reply : (vs : List (Value (List ℕ))) {l m n : List ℕ} {d f : Cursor} {i t w : ℕ} {z : ℤ} {r : Written} {ks : List Kind}
+    → Started true true (9 + w) l i t z m d → Ends f r → plan reply t ≡ led false ks → true ≡ textsRight ks vs → w ≡ length (encodeAll ks vs)
+    → Put m d (encodeAll ks vs) n f → Wrote (write reply success i t (signed z ∷ vs) true l) n r
+group-reply vs {i = i} {t = t} {z = z} {ks = ks} start end p texts size q =
+    succeeds i t z vs start end p texts refl (append-nil (encodeAll ks vs)) (ap (λ (k : ℕ). 9 + k) size) (more q none)
+
 and-true : (a : Bool) → a ≡ a && true
 and-true true = refl
 and-true false = refl
 
 -- a success of one text or data behind the result
-pub run-reply : {l m n s : List ℕ} {d f : Cursor} {i t : ℕ} {z : ℤ} {r : Written} {count texts counted : Bool} {k : Kind}
+pub run-reply : (s : List ℕ) {l m n : List ℕ} {d f : Cursor} {i t : ℕ} {z : ℤ} {r : Written} {count texts counted : Bool} {k : Kind}
     → Started texts counted (length s + 0 + (9 + 4)) l i t z m d → Ends f r → plan reply t ≡ led count (k ∷ []) → encode k (run s) ≡ sized s → texts ≡ textRight k (run s)
-    → counted ≡ countRight (led count (k ∷ [])) success (signed z ∷ run s ∷ []) → Puts m d (bytesOf 4 (length s) ∷ s ∷ []) n f
+    → counted ≡ countRight (led count (k ∷ [])) success (signed z ∷ run s ∷ []) → Put m (runFrom d (length s)) (sized s) n f
     → Wrote (write reply success i t (signed z ∷ run s ∷ []) true l) n r
-run-reply {s = s} {i = i} {t = t} {z = z} {k = k} start end p sizes text tally q =
-    succeeds i t z (run s ∷ []) start end p (text ∙ and-true (textRight k (run s))) tally bytes size q
+run-reply s {l = l} {m = m} {n = n} {d = d} {f = f} {i = i} {t = t} {z = z} {texts = texts} {counted = counted} {k = k} start end p sizes text tally q =
+    succeeds i t z (run s ∷ []) start end p (text ∙ and-true (textRight k (run s))) tally bytes size (more put none)
   where
-    bytes : bytesOf 4 (length s) ++ (s ++ []) ≡ encode k (run s) ++ []
-    bytes = rw sizes (sym (append-assoc (bytesOf 4 (length s)) s []))
+    put : Put m d (sized s) n f
+    put = run-within (allowed-size z texts counted (length s + 0 + (9 + 4)) (length l)) (start .is) (omega arith) q
+
+    bytes : sized s ++ [] ≡ encode k (run s) ++ []
+    bytes = rw sizes
 
     size : length s + 0 + (9 + 4) ≡ 9 + length (encode k (run s) ++ [])
-    size = rw (← bytes) (omega (arith, length-append (bytesOf 4 (length s)) (s ++ []), length-append s [], length-bytesOf 4 (length s)))
+    size = rw (← bytes) (omega (arith, length-append (sized s) [], length-append (bytesOf 4 (length s)) s, length-bytesOf 4 (length s)))
 
 -- ---- a reply without a result
 
-pub plain-reply : (i t : ℕ) {l m n s : List ℕ} {c d f : Cursor} {r : Written} → c ≡ admitted (wellFormed s) (length s + 0 + 9) (length l)
-    → plan reply t ≡ plain (string ∷ []) → Ends f r → Puts l c (bytesOf 4 i ∷ bytesOf 1 t ∷ []) m d → Puts m d (bytesOf 4 (length s) ∷ s ∷ []) n f
+pub plain-reply : (i t : ℕ) (s : List ℕ) {l m n : List ℕ} {c d f : Cursor} {r : Written} → c ≡ admitted (wellFormed s) (length s + 0 + 9) (length l)
+    → plan reply t ≡ plain (string ∷ []) → Ends f r → Put l c (bytesOf 4 i ++ bytesOf 1 t) m d → Put m (runFrom d (length s)) (sized s) n f
     → Wrote (write reply success i t (run s ∷ []) true l) n r
 unfolding write encodeMessage
-plain-reply i t {l} {m} {n} {s} {c} {d} {f} {r} a p end h q =
+plain-reply i t s {l} {m} {n} {c} {d} {f} {r} a p end h q =
     rw (p, ← (and-true (wellFormed s))) (wrote {es = all} end (wellFormed s) e bytes stored)
   where
     e : List ℕ
     e = bytesOf 4 i ++ (bytesOf 1 t ++ (sized s ++ []))
 
     all : List (List ℕ)
-    all = bytesOf 4 i ∷ bytesOf 1 t ∷ bytesOf 4 (length s) ∷ s ∷ []
+    all = (bytesOf 4 i ++ bytesOf 1 t) ∷ sized s ∷ []
 
     bytes : concat all ≡ e
-    bytes = rw (append-assoc (bytesOf 4 (length s)) s [])
+    bytes = append-assoc (bytesOf 4 i) (bytesOf 1 t) (sized s ++ [])
 
     size : length s + 0 + 9 ≡ length e
     size =
         rw (← bytes)
         (omega (
           arith,
-          length-append (bytesOf 4 i) (concat (bytesOf 1 t ∷ bytesOf 4 (length s) ∷ s ∷ [])),
-          length-append (bytesOf 1 t) (concat (bytesOf 4 (length s) ∷ s ∷ [])),
-          length-append (bytesOf 4 (length s)) (s ++ []),
-          length-append s [],
+          length-append (bytesOf 4 i ++ bytesOf 1 t) (sized s ++ []),
+          length-append (bytesOf 4 i) (bytesOf 1 t),
+          length-append (sized s) [],
+          length-append (bytesOf 4 (length s)) s,
           length-bytesOf 4 i,
           length-bytesOf 1 t,
           length-bytesOf 4 (length s),
         ))
 
+    put : Put m d (sized s) n f
+    put = run-within (admitted-within (wellFormed s) (length s + 0 + 9) (length l) a) (more h none) (omega arith) q
+
     stored : Puts l (admitted (wellFormed s) (length e) (length l)) all n f
-    stored = subst (λ (k : ℕ). Puts l (admitted (wellFormed s) k (length l)) all n f) size (rw (← a) (puts-then h q))
+    stored = subst (λ (k : ℕ). Puts l (admitted (wellFormed s) k (length l)) all n f) size (rw (← a) (more h (more put none)))
 
 -- ---- a failure
 
@@ -175,12 +199,12 @@ module _ (i t : ℕ) (z : ℤ) (l : List ℕ) where
     no-failure-sign h = record { tells = rw (p, negative-below z [], h); leaves = rw (p, negative-below z [], h) }
 
     pub failed : {n : List ℕ} {c f : Cursor} {r : Written} → c ≡ admitted true 9 (length l) → ltZ z (pos 0) ≡ true → Ends f r
-        → Puts l c (bytesOf 4 i ∷ bytesOf 1 t ∷ bytesOf 4 (bitsOf 4 z) ∷ []) n f → Wrote (write reply failure i t (signed z ∷ []) true l) n r
+        → Puts l c ((bytesOf 4 i ++ bytesOf 1 t) ∷ bytesOf 4 (bitsOf 4 z) ∷ []) n f → Wrote (write reply failure i t (signed z ∷ []) true l) n r
     unfolding write encodeMessage
-    failed {n} {c} {f} {r} a h end q = rw (p, negative-below z [], h, failure-uncounted count ks (signed z ∷ [])) (wrote end true e refl stored)
+    failed {n} {c} {f} {r} a h end q = rw (p, negative-below z [], h, failure-uncounted count ks (signed z ∷ [])) (wrote end true e (append-assoc (bytesOf 4 i) (bytesOf 1 t) (bytesOf 4 (bitsOf 4 z) ++ [])) stored)
       where
         e : List ℕ
         e = led·bytes i t z []
 
-        stored : Puts l (admitted true (length e) (length l)) (bytesOf 4 i ∷ bytesOf 1 t ∷ bytesOf 4 (bitsOf 4 z) ∷ []) n f
-        stored = subst (λ (k : ℕ). Puts l (admitted true k (length l)) (bytesOf 4 i ∷ bytesOf 1 t ∷ bytesOf 4 (bitsOf 4 z) ∷ []) n f) (sym (led-size i t z [])) (rw (← a) q)
+        stored : Puts l (admitted true (length e) (length l)) ((bytesOf 4 i ++ bytesOf 1 t) ∷ bytesOf 4 (bitsOf 4 z) ∷ []) n f
+        stored = subst (λ (k : ℕ). Puts l (admitted true k (length l)) ((bytesOf 4 i ++ bytesOf 1 t) ∷ bytesOf 4 (bitsOf 4 z) ∷ []) n f) (sym (led-size i t z [])) (rw (← a) q)

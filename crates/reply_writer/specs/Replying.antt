@@ -1,7 +1,7 @@
 -- What writing a reply means.
 use Prim.Native.Nat.{ℕ, _+_}
 use mathlib.Core.Bool.{Bool, true, not, cond}
-use mathlib.Core.List.{List, [], _∷_}
+use mathlib.Core.List.{List, [], _∷_, _++_}
 use lib.IntN.{ℤ, pos}
 use lib.Signed.{ltZ}
 use lib.ListN.{length}
@@ -33,4 +33,4 @@ allowed z textRight counted size n =
 
 -- the header and the result of a success of so many bytes, stored where it passes the checks
 pub record Started (textRight counted : Bool) (size : ℕ) (l : List ℕ) (i t : ℕ) (z : ℤ) (m : List ℕ) (d : Cursor) : Type 0 where
-  pub is : Puts l (allowed z textRight counted size (length l)) (bytesOf 4 i ∷ bytesOf 1 t ∷ bytesOf 4 (bitsOf 4 z) ∷ []) m d
+  pub is : Puts l (allowed z textRight counted size (length l)) ((bytesOf 4 i ++ bytesOf 1 t) ∷ bytesOf 4 (bitsOf 4 z) ∷ []) m d

@@ -3,7 +3,7 @@
 // All checks stand before the first store, so a refused writer changes no byte.
 ghost use mathlib.Core.Path.{_≡_};
 ghost use mathlib.Core.Bool.{true, false};
-ghost use mathlib.Core.List.{[], _∷_};
+ghost use mathlib.Core.List.{[], _∷_, _++_};
 ghost use Prim.Native.Nat.{_+_, _≤_};
 ghost use lib.ListN.{length};
 ghost use Rattle.number.specs.BigEndian.{bytesOf};
@@ -44,7 +44,7 @@ fn admit(result: i32, texts: bool, counted: bool, run: usize, fields: usize, len
 
 // The header and the result.
 fn put_result(out: &mut [u8], c: Cursor, id: u32, kind: u8, result: i32) -> Cursor
-    ensures { λ r. ⌜ Puts (now (out .entry)) c (bytesOf 4 id ∷ bytesOf 1 kind ∷ bytesOf 4 (bitsOf 4 result) ∷ []) (now (out .exit)) r ⌝ }
+    ensures { λ r. ⌜ Puts (now (out .entry)) c ((bytesOf 4 id ++ bytesOf 1 kind) ∷ bytesOf 4 (bitsOf 4 result) ∷ []) (now (out .exit)) r ⌝ }
 {
     let header = store::put_header(out, c, id, kind);
     store::put_i32(out, header, result)
@@ -263,5 +263,6 @@ pub fn write_failure(id: u32, kind: u8, result: i32, out: &mut [u8]) -> Written
 pub fn write_unknown_response(id: u32, out: &mut [u8]) -> Written
     ensures { λ r. ⌜ Wrote (write reply unknown id unknownResponse [] true (now (out .entry))) (now (out .exit)) r ⌝ }
 {
-    writer::write_header(id, Method::UNKNOWN_RESPONSE, out)
+    let header = store::put_header(out, Cursor { code: 0, at: 0 }, id, Method::UNKNOWN_RESPONSE);
+    writer::finish(header)
 }

@@ -2,7 +2,7 @@
 ghost use mathlib.Core.Path.{_≡_};
 ghost use Rattle.layout.specs.Table.{request as request·side};
 ghost use Rattle.layout.specs.Parts.{partNamed};
-ghost use Rattle.field.specs.Cursors.{partOf, shown};
+ghost use Rattle.field.specs.Cursors.{partOf, Shows};
 ghost use Rattle.request_reader.specs.Answers.{answerOf};
 ghost use Rattle.request_parts.specs.Parts.{partsOf, partsNamed, partsOfRequest, onlyPath, onlyData, twoPaths, linkPaths, noParts};
 use field::Run;
@@ -136,42 +136,42 @@ fn runs_of(answer: RequestAnswer) -> Runs
 // The bytes of each text and of the data, as a part of the message that was answered so. A message without that field, and one
 // that was refused, gives the empty part.
 pub fn path<'a>(m: &'a [u8], answer: RequestAnswer) -> &'a [u8]
-    ensures { λ s. ⌜ now s ≡ shown (now (m .entry)) (partNamed request·side "path" (answerOf answer)) ⌝ }
+    ensures { λ s. ⌜ Shows (m .entry) (partNamed request·side "path" (answerOf answer)) s ⌝ }
 {
     let runs = runs_of(answer);
     field::bytes_of(m, runs.path)
 }
 
 pub fn target<'a>(m: &'a [u8], answer: RequestAnswer) -> &'a [u8]
-    ensures { λ s. ⌜ now s ≡ shown (now (m .entry)) (partNamed request·side "target" (answerOf answer)) ⌝ }
+    ensures { λ s. ⌜ Shows (m .entry) (partNamed request·side "target" (answerOf answer)) s ⌝ }
 {
     let runs = runs_of(answer);
     field::bytes_of(m, runs.target)
 }
 
 pub fn linkpath<'a>(m: &'a [u8], answer: RequestAnswer) -> &'a [u8]
-    ensures { λ s. ⌜ now s ≡ shown (now (m .entry)) (partNamed request·side "linkpath" (answerOf answer)) ⌝ }
+    ensures { λ s. ⌜ Shows (m .entry) (partNamed request·side "linkpath" (answerOf answer)) s ⌝ }
 {
     let runs = runs_of(answer);
     field::bytes_of(m, runs.linkpath)
 }
 
 pub fn old_path<'a>(m: &'a [u8], answer: RequestAnswer) -> &'a [u8]
-    ensures { λ s. ⌜ now s ≡ shown (now (m .entry)) (partNamed request·side "old_path" (answerOf answer)) ⌝ }
+    ensures { λ s. ⌜ Shows (m .entry) (partNamed request·side "old_path" (answerOf answer)) s ⌝ }
 {
     let runs = runs_of(answer);
     field::bytes_of(m, runs.old_path)
 }
 
 pub fn new_path<'a>(m: &'a [u8], answer: RequestAnswer) -> &'a [u8]
-    ensures { λ s. ⌜ now s ≡ shown (now (m .entry)) (partNamed request·side "new_path" (answerOf answer)) ⌝ }
+    ensures { λ s. ⌜ Shows (m .entry) (partNamed request·side "new_path" (answerOf answer)) s ⌝ }
 {
     let runs = runs_of(answer);
     field::bytes_of(m, runs.new_path)
 }
 
 pub fn data<'a>(m: &'a [u8], answer: RequestAnswer) -> &'a [u8]
-    ensures { λ s. ⌜ now s ≡ shown (now (m .entry)) (partNamed request·side "data" (answerOf answer)) ⌝ }
+    ensures { λ s. ⌜ Shows (m .entry) (partNamed request·side "data" (answerOf answer)) s ⌝ }
 {
     let runs = runs_of(answer);
     field::bytes_of(m, runs.data)

@@ -44,7 +44,7 @@ pub record ReadAs (l : List ℕ) (m : Method) (i : ℕ) (vs : List (Value (List 
   pub method : methodOf request ≡ m
   pub says : contents l (valuesOf request) ≡ vs
 
-small-type : (m : Method) → requestNumber m < 256
+pub small-type : (m : Method) → requestNumber m < 256
 small-type m =
     leb-true (suc (requestNumber m)) 256 (request-passes (λ (k : Method). leb (suc (requestNumber k)) 256) refl (requestNumber m) (request-found m))
 

@@ -44,34 +44,40 @@ and-assoc : (a b c : Bool) → c ≡ true → a && b ≡ a && (b && c)
 and-assoc true b c h = and-true b ∙ rw h
 and-assoc false b c h = refl
 
--- a request with one text or data, and numbers behind it
-pub run-asks : (vs : List (Value (List ℕ))) {ok : Bool} {l m n s : List ℕ} {d f : Cursor} {i t w : ℕ} {r : Written} {k : Kind} {ks : List Kind}
+-- a request with one text or data, and numbers behind it that are stored in these pieces
+pub pieces-asks : (vs : List (Value (List ℕ))) (rest : List (List ℕ)) {ok : Bool} {l m n s : List ℕ} {d f : Cursor} {i t w : ℕ} {r : Written} {k : Kind} {ks : List Kind}
     → Started ok l i t s w m d → Ends f r → plan request t ≡ asked (k ∷ ks) → encode k (run s) ≡ sized s → ok ≡ textRight k (run s)
-    → textsRight ks vs ≡ true → length (encodeAll ks vs) ≡ w → Fields m d ks vs n f → Wrote (write request known i t (run s ∷ vs) true l) n r
+    → textsRight ks vs ≡ true → length (encodeAll ks vs) ≡ w → concat rest ≡ encodeAll ks vs → Puts m d rest n f → Wrote (write request known i t (run s ∷ vs) true l) n r
 unfolding encodeMessage
-run-asks vs {ok} {l} {m} {n} {s} {d} {f} {i} {t} {w} {r} {k} {ks} start end p sizes text texts size q =
-    asks i t (run s ∷ vs) (length s + 0 + (9 + w)) ok end p (text ∙ and-true (textRight k (run s)) ∙ rw texts) bytes long (puts-then (start .is) (fields-put q))
+pieces-asks vs rest {ok} {l} {m} {n} {s} {d} {f} {i} {t} {w} {r} {k} {ks} start end p sizes text texts size these q =
+    asks i t (run s ∷ vs) (length s + 0 + (9 + w)) ok end p (text ∙ and-true (textRight k (run s)) ∙ rw texts) bytes long (puts-then (start .is) q)
   where
-    rest : List (List ℕ)
-    rest = encodings ks vs
+    head : List ℕ
+    head = bytesOf 4 i ++ bytesOf 1 t
 
-    bytes : concat (bytesOf 4 i ∷ bytesOf 1 t ∷ bytesOf 4 (length s) ∷ s ∷ rest) ≡ encodeMessage request known i t (run s ∷ vs)
-    bytes = rw (p, sizes, concat-encodings ks vs, append-assoc (bytesOf 4 (length s)) s (encodeAll ks vs))
+    bytes : concat (head ∷ sized s ∷ rest) ≡ encodeMessage request known i t (run s ∷ vs)
+    bytes = rw (p, sizes, these, append-assoc (bytesOf 4 i) (bytesOf 1 t) (sized s ++ encodeAll ks vs))
 
-    long : length s + 0 + (9 + w) ≡ length (concat (bytesOf 4 i ∷ bytesOf 1 t ∷ bytesOf 4 (length s) ∷ s ∷ rest))
+    long : length s + 0 + (9 + w) ≡ length (concat (head ∷ sized s ∷ rest))
     long =
         omega (
           arith,
           size,
-          ap length (concat-encodings ks vs),
-          length-append (bytesOf 4 i) (concat (bytesOf 1 t ∷ bytesOf 4 (length s) ∷ s ∷ rest)),
-          length-append (bytesOf 1 t) (concat (bytesOf 4 (length s) ∷ s ∷ rest)),
-          length-append (bytesOf 4 (length s)) (s ++ concat rest),
-          length-append s (concat rest),
+          ap length these,
+          length-append head (sized s ++ concat rest),
+          length-append (bytesOf 4 i) (bytesOf 1 t),
+          length-append (sized s) (concat rest),
+          length-append (bytesOf 4 (length s)) s,
           length-bytesOf 4 i,
           length-bytesOf 1 t,
           length-bytesOf 4 (length s),
         )
+
+-- each number by itself
+pub run-asks : (vs : List (Value (List ℕ))) {ok : Bool} {l m n s : List ℕ} {d f : Cursor} {i t w : ℕ} {r : Written} {k : Kind} {ks : List Kind}
+    → Started ok l i t s w m d → Ends f r → plan request t ≡ asked (k ∷ ks) → encode k (run s) ≡ sized s → ok ≡ textRight k (run s)
+    → textsRight ks vs ≡ true → length (encodeAll ks vs) ≡ w → Fields m d ks vs n f → Wrote (write request known i t (run s ∷ vs) true l) n r
+run-asks vs {ks = ks} start end p sizes text texts size q = pieces-asks vs (encodings ks vs) start end p sizes text texts size (concat-encodings ks vs) (fields-put q)
 
 -- a request with two texts, and numbers behind them
 pub two-asks : (vs : List (Value (List ℕ))) {l m n s u : List ℕ} {d f : Cursor} {i t w : ℕ} {r : Written} {ks : List Kind}
@@ -85,24 +91,27 @@ two-asks vs {l} {m} {n} {s} {u} {d} {f} {i} {t} {w} {r} {ks} start end p texts s
     rest : List (List ℕ)
     rest = encodings ks vs
 
+    head : List ℕ
+    head = bytesOf 4 i ++ bytesOf 1 t
+
     second : List (List ℕ)
-    second = bytesOf 4 (length u) ∷ u ∷ rest
+    second = sized u ∷ rest
 
-    bytes : concat (bytesOf 4 i ∷ bytesOf 1 t ∷ bytesOf 4 (length s) ∷ s ∷ second) ≡ encodeMessage request known i t (run s ∷ run u ∷ vs)
-    bytes = rw (p, concat-encodings ks vs, append-assoc (bytesOf 4 (length s)) s (sized u ++ encodeAll ks vs), append-assoc (bytesOf 4 (length u)) u (encodeAll ks vs))
+    bytes : concat (head ∷ sized s ∷ second) ≡ encodeMessage request known i t (run s ∷ run u ∷ vs)
+    bytes = rw (p, concat-encodings ks vs, append-assoc (bytesOf 4 i) (bytesOf 1 t) (sized s ++ (sized u ++ encodeAll ks vs)))
 
-    long : length s + length u + (13 + w) ≡ length (concat (bytesOf 4 i ∷ bytesOf 1 t ∷ bytesOf 4 (length s) ∷ s ∷ second))
+    long : length s + length u + (13 + w) ≡ length (concat (head ∷ sized s ∷ second))
     long =
         omega (
           arith,
           size,
           ap length (concat-encodings ks vs),
-          length-append (bytesOf 4 i) (concat (bytesOf 1 t ∷ bytesOf 4 (length s) ∷ s ∷ second)),
-          length-append (bytesOf 1 t) (concat (bytesOf 4 (length s) ∷ s ∷ second)),
-          length-append (bytesOf 4 (length s)) (s ++ concat second),
-          length-append s (concat second),
-          length-append (bytesOf 4 (length u)) (u ++ concat rest),
-          length-append u (concat rest),
+          length-append head (sized s ++ concat second),
+          length-append (bytesOf 4 i) (bytesOf 1 t),
+          length-append (sized s) (concat second),
+          length-append (sized u) (concat rest),
+          length-append (bytesOf 4 (length s)) s,
+          length-append (bytesOf 4 (length u)) u,
           length-bytesOf 4 i,
           length-bytesOf 1 t,
           length-bytesOf 4 (length s),

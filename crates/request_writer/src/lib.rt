@@ -264,7 +264,8 @@ pub fn write_utimens(
 pub fn write_getcreds(id: u32, out: &mut [u8]) -> Written
     ensures { λ r. ⌜ Wrote (asking methods.Getcreds id [] (now (out .entry))) (now (out .exit)) r ⌝ }
 {
-    writer::write_header(id, Method::GETCREDS, out)
+    let header = store::put_header(out, Cursor { code: 0, at: 0 }, id, Method::GETCREDS);
+    writer::finish(header)
 }
 
 // A request of a type that is no method's. A method's type is refused.
@@ -277,6 +278,9 @@ pub fn write_unknown(id: u32, kind: u8, out: &mut [u8]) -> Written
             number: 3,
             place: 0,
         },
-        Lookup::Unknown => writer::write_header(id, kind, out),
+        Lookup::Unknown => {
+            let header = store::put_header(out, Cursor { code: 0, at: 0 }, id, kind);
+            writer::finish(header)
+        }
     }
 }

@@ -1,12 +1,13 @@
 // Runs what a host cannot call, on the cases of the ops `s` and `o` of second/FORMAT.md: the parts that an answer shows by their own
-// functions, the names iterator as a struct, a request written again by one call, names collected; and the table of outstanding
-// requests in lent records. A line for each case.
+// functions, the names iterator as a struct, names collected, a request and a reply written again by one call; and the table of
+// outstanding requests in lent records. A line for each case.
 mod cases;
+mod checksum;
 mod print;
 mod table;
 
-use field::Names;
-use names::Position;
+ghost use mathlib.Core.Path.{_≡_};
+ghost use Rattle.shown.specs.Ends.{isPast};
 use names::Step;
 use names_writer::Collected;
 use reply_reader::Reply;
@@ -14,11 +15,19 @@ use reply_reader::ReplyAnswer;
 use request_reader::RequestAnswer;
 use writer::Written;
 
-// The ops of a case, and the side of a request.
+// The ops of a case.
 const SHOWN: u8 = b's';
 
 const CALLED: u8 = b'o';
 
+// A body of op `s` is the side, the room of the lent buffer, and the message.
+const SIDE_PLACE: usize = 0;
+
+const ROOM_PLACE: usize = 1;
+
+const MESSAGE_PLACE: usize = 5;
+
+// The side of a request; any other one is that of a reply.
 const REQUEST: u8 = 0;
 
 // All memory: a case's body, the lent buffer, and the lengths of names.
@@ -63,18 +72,13 @@ fn answer(op: u8, body: &[u8], out: &mut [u8], lengths: &mut [u32]) {
     show(body, out, lengths);
 }
 
-// A body is the side, the room of the lent buffer, and the message.
 fn show(body: &[u8], out: &mut [u8], lengths: &mut [u32]) {
-    let side = field::u8_at(body, cases::start());
-    let room = field::u32_at(body, side.next);
-    let next = room.next;
-    let m = cases::rest(body, next.at);
-    let lent = cases::part_mut(out, room.value as usize);
-    cases::fill(lent);
-    if side.value == REQUEST {
+    let room = cases::word_at(body, ROOM_PLACE) as usize;
+    let m = cases::rest(body, MESSAGE_PLACE);
+    let lent = cases::part_mut(out, room);
+    if cases::byte_at(body, SIDE_PLACE) == REQUEST {
         show_request(m, lent);
     } else {
-        cases::fill_lengths(lengths);
         show_reply(m, lent, lengths);
     }
 }
@@ -91,6 +95,7 @@ fn show_request(m: &[u8], out: &mut [u8]) {
     print::put_part(request_parts::new_path(m, answer));
     print::put_part(request_parts::data(m, answer));
     if let RequestAnswer::Known { id, request, .. } = answer {
+        cases::fill(out);
         let written = request_rewriter::write_request(id, request, m, out);
         show_written(written, out);
     }
@@ -98,18 +103,16 @@ fn show_request(m: &[u8], out: &mut [u8]) {
 
 fn show_written(written: Written, out: &[u8]) {
     let len = written.len();
+    print::put(b" ");
     match written {
         Written::Stored { .. } => {
-            print::put(b" stored ");
+            print::put(b"stored ");
             print::put_number(len as u64);
             print::put_hash(cases::part(out, len));
             print::put_hash(cases::rest(out, len));
         }
         Written::Refused { number, place } => {
-            print::put(b" refused ");
-            print::put_number(number as u64);
-            print::put(b" at ");
-            print::put_number(place as u64);
+            print::put_refusal(number, place);
             print::put_hash(out);
         }
     }
@@ -117,93 +120,89 @@ fn show_written(written: Written, out: &[u8]) {
 
 // ---- a reply
 
-fn show_reply(m: &[u8], run: &mut [u8], lengths: &mut [u32]) {
+fn show_reply(m: &[u8], out: &mut [u8], lengths: &mut [u32]) {
     let answer = reply_reader::read_reply(m);
     print::put(b"reply");
     print::put_part(reply_parts::resolved(m, answer));
     print::put_part(reply_parts::data(m, answer));
     print::put_part(reply_parts::creds(m, answer));
     let first = names::open_answer(answer);
-    let last = show_names(m, first);
-    if is_end(m, last) {
-        show_end(m, first.left);
-    }
-    if let ReplyAnswer::Success { reply, .. } = answer {
-        show_success(m, reply, run, lengths);
+    show_names(m, first.left);
+    if let ReplyAnswer::Success {
+        id,
+        result,
+        reply,
+        ..
+    } = answer {
+        show_collected(m, reply, out, lengths);
+        cases::fill(out);
+        let written = reply_rewriter::write_reply(id, result, reply, m, out);
+        show_written(written, out);
     }
 }
 
-// Shows the names from a position on, and answers the position behind the last.
-fn show_names(m: &[u8], first: Position) -> Position {
-    let mut position = first;
-    let mut turns = first.left;
+// The names that the iterator gives, and that it has ended behind them.
+fn show_names(m: &[u8], count: u32) {
     let mut number = 0;
-    while turns > 0 {
-        position = show_next(m, position, number);
+    while number < count {
+        show_name(m, number);
         number += 1;
-        turns -= 1;
     }
-    position
+    show_end(m, count);
 }
 
-// Shows a name: its place by the step through the iterator, its length by the step's bytes, and its checksum by its number.
-fn show_next(m: &[u8], position: Position, number: u32) -> Position {
-    let step = names_iterator::step_from(m, position);
-    match step {
-        Step::Name { run, next } => {
-            print::put(b" name=");
-            print::put_number(run.start as u64);
-            print::put(b":");
-            print::put_number(names::name(m, step).len() as u64);
-            print::put(b":");
-            print::put_number(print::hash(names_iterator::nth_name(m, number)));
-            next
-        }
-        Step::End { position } => position,
+// Shows a name: its place by the iterator's step, its length by the step's bytes, and its checksum by its number.
+fn show_name(m: &[u8], number: u32) {
+    let moved = names_iterator::nth_step(m, number);
+    let step = moved.step;
+    if let Step::Name { run, .. } = step {
+        print::put(b" name=");
+        print::put_number(run.start as u64);
+        print::put(b":");
+        print::put_number(names::name(m, step).len() as u64);
+        print::put(b":");
+        print::put_number(checksum::of_bytes(names_iterator::nth_name(m, number)));
     }
 }
 
-// Asked twice, the iterator says both times that there is no name.
-fn is_end(m: &[u8], position: Position) -> bool {
-    let step = names_iterator::step_from(m, position);
-    match step {
-        Step::Name { .. } => false,
-        Step::End { position } => has_no_next(m, position),
+// Behind the last name, and once more behind that, the iterator says that there is none; and a name by its number shows no bytes.
+fn show_end(m: &[u8], count: u32) {
+    let further = if count < u32::MAX { count + 1 } else { count };
+    let name = names_iterator::nth_name(m, count);
+    if is_past(m, count) & is_past(m, further) & (name.len() == 0) {
+        print::put(b" end");
     }
 }
 
-fn has_no_next(m: &[u8], position: Position) -> bool {
-    let step = names_iterator::step_from(m, position);
+// Whether the iterator has no name of this number.
+fn is_past(m: &[u8], number: u32) -> bool
+    ensures { λ r. ⌜ r ≡ isPast number (now (m .entry)) ⌝ }
+{
+    let moved = names_iterator::nth_step(m, number);
+    let step = moved.step;
     match step {
         Step::Name { .. } => false,
         Step::End { .. } => true,
     }
 }
 
-// Behind the last name, a name by its number shows no bytes.
-fn show_end(m: &[u8], count: u32) {
-    if names_iterator::nth_name(m, count).len() == 0 {
-        print::put(b" end");
-    }
-}
-
 // The names of a readdir reply, collected; nothing for any other success.
-fn show_success(m: &[u8], reply: Reply, run: &mut [u8], lengths: &mut [u32]) {
-    if let Reply::Readdir { names } = reply {
-        show_collected(m, names, run, lengths);
-    }
-}
-
-fn show_collected(m: &[u8], names: Names, run: &mut [u8], lengths: &mut [u32]) {
-    let collected = names_writer::collect_names(m, names, run, lengths);
+fn show_collected(m: &[u8], reply: Reply, run: &mut [u8], lengths: &mut [u32]) {
+    let Reply::Readdir { count } = reply else {
+        return;
+    };
+    cases::fill(run);
+    cases::fill_lengths(lengths);
+    let collected = names_writer::collect_names(m, count, run, lengths);
+    print::put(b" ");
     match collected {
         Collected::Copied { count, len } => {
-            print::put(b" collected ");
+            print::put(b"collected ");
             print::put_number(count as u64);
             print::put(b" ");
             print::put_number(len as u64);
         }
-        Collected::NoRoom => print::put(b" no-room"),
+        Collected::Refused { number, place } => print::put_refusal(number, place),
     }
     print::put_hash(run);
     print::put_hash_of_lengths(lengths);

@@ -1,5 +1,8 @@
 // One call on a table of 64 records, by the functions that a service calls on records that it lends: op `o`.
-use field::Cursor;
+ghost use mathlib.Core.Path.{_≡_};
+ghost use Rattle.shown.specs.Cases.{recordIn, tableIn};
+use crate::cases;
+use crate::print;
 use outstanding_bridges::ArrivedTable;
 use outstanding_bridges::EnteredTable;
 use outstanding_decisions::Arrived;
@@ -14,50 +17,62 @@ const EMPTY: u8 = b'e';
 
 const ENTER: u8 = b'n';
 
-// The bytes of a record.
+// A body is the call, the id and the type of an entry, the records, and the message of a reply. A record is whether it is held, its id
+// and its type, at the same places.
+const CALL_PLACE: usize = 0;
+
+const HELD_PLACE: usize = 0;
+
+const ID_PLACE: usize = 1;
+
+const TYPE_PLACE: usize = 5;
+
 const RECORD_LEN: usize = 6;
 
-// A body is the call, the id and the type of an entry, the records, and the message of a reply.
-pub fn answer(body: &[u8]) {
-    let call = field::u8_at(body, crate::cases::start());
-    let id = field::u32_at(body, call.next);
-    let type_number = field::u8_at(body, id.next);
-    let next = type_number.next;
-    let table = read_table(crate::cases::rest(body, next.at));
-    let message = crate::cases::rest(crate::cases::rest(body, next.at), SIZE * RECORD_LEN);
-    let called = call.value;
-    match called {
+const RECORDS_PLACE: usize = 6;
+
+pub(crate) fn answer(body: &[u8]) {
+    let id = cases::word_at(body, ID_PLACE);
+    let type_number = cases::byte_at(body, TYPE_PLACE);
+    let records = cases::rest(body, RECORDS_PLACE);
+    let table = read_table(records);
+    let message = cases::rest(records, SIZE * RECORD_LEN);
+    let call = cases::byte_at(body, CALL_PLACE);
+    match call {
         EMPTY => show_entered(b"emptied", outstanding_bridges::empty(table)),
         ENTER => show_entered(
             b"entered",
-            outstanding_bridges::enter(table, id.value, type_number.value),
+            outstanding_bridges::enter(table, id, type_number),
         ),
         _ => show_arrived(message, outstanding_bridges::arrive(table, message)),
     }
 }
 
-fn read_table(records: &[u8]) -> [Record; 64] {
+// The table whose records stand there one behind the other.
+fn read_table(records: &[u8]) -> [Record; 64]
+    ensures { λ r. ⌜ r ≡ tableIn (now (records .entry)) ⌝ }
+{
     let mut table = [Record::Free; 64];
     let mut i = 0;
     while i < SIZE {
-        table[i] = read_record(records, i * RECORD_LEN);
+        table[i] = read_record(cases::rest(records, i * RECORD_LEN));
         i += 1;
     }
     table
 }
 
-fn read_record(records: &[u8], at: usize) -> Record {
-    let held = field::u8_at(records, Cursor { code: 0, at });
-    let id = field::u32_at(records, held.next);
-    let type_number = field::u8_at(records, id.next);
-    if held.value == 0 {
+// The first of the records that stand there.
+fn read_record(records: &[u8]) -> Record
+    ensures { λ r. ⌜ r ≡ recordIn (now (records .entry)) ⌝ }
+{
+    if cases::byte_at(records, HELD_PLACE) == 0 {
         return Record::Free;
     }
     let request = Request {
-        type_number: type_number.value,
+        type_number: cases::byte_at(records, TYPE_PLACE),
     };
     Record::Held {
-        id: id.value,
+        id: cases::word_at(records, ID_PLACE),
         request,
     }
 }
@@ -67,33 +82,26 @@ fn read_record(records: &[u8], at: usize) -> Record {
 fn show_entered(done: &[u8], after: EnteredTable) {
     let answer = after.answer;
     match answer {
-        Entered::Done => crate::print::put(done),
-        Entered::Refused { number, place } => show_refused(number, place),
+        Entered::Done => print::put(done),
+        Entered::Refused { number, place } => print::put_refusal(number, place),
     }
     let words = after.words;
-    crate::print::put_hash_of_records(words);
+    print::put_hash_of_records(words);
 }
 
 fn show_arrived(message: &[u8], after: ArrivedTable) {
     let answer = after.answer;
     match answer {
         Arrived::Answered { answer } => show_parts(message, answer),
-        Arrived::Refused { number, place } => show_refused(number, place),
+        Arrived::Refused { number, place } => print::put_refusal(number, place),
     }
     let words = after.words;
-    crate::print::put_hash_of_records(words);
+    print::put_hash_of_records(words);
 }
 
 fn show_parts(message: &[u8], answer: ReplyAnswer) {
-    crate::print::put(b"answered");
-    crate::print::put_part(reply_parts::resolved(message, answer));
-    crate::print::put_part(reply_parts::data(message, answer));
-    crate::print::put_part(reply_parts::creds(message, answer));
-}
-
-fn show_refused(number: u8, place: usize) {
-    crate::print::put(b"refused ");
-    crate::print::put_number(number as u64);
-    crate::print::put(b" at ");
-    crate::print::put_number(place as u64);
+    print::put(b"answered");
+    print::put_part(reply_parts::resolved(message, answer));
+    print::put_part(reply_parts::data(message, answer));
+    print::put_part(reply_parts::creds(message, answer));
 }

@@ -1,20 +1,22 @@
 -- Laws of storing at a cursor. Assumes nothing.
 use mathlib.Core.Path.{_≡_, refl, sym, ap, _∙_}
+use mathlib.Core.Bool.{Bool, true, false}
 use mathlib.Core.List.{List, [], _∷_, _++_, append-assoc}
 use Prim.Native.Nat.{ℕ, _+_, _%_, _^_, _≤_, _<_}
 use native.Mathlib.Nat.{add-zero, add-assoc}
 use native.Mathlib.Omega.{arith}
+use lib.Dec.{eqb}
 use lib.ListN.{length, take, drop, length-append}
 use lib.Seq.{take-at, drop-at, drop-drop, length-take-le, paste-zero}
-use borrow.Author.Tests.{eq-eqb, ne-eqb, le-leb, lt-leb}
-use Rattle.number.specs.BigEndian.{be, bytesOf, overwritten}
-use Rattle.number.proofs.BigEndian.{length-bytesOf, length-overwritten, bytes-bytesOf, be-bytesOf-mod, bytesOf-be}
+use borrow.Author.Tests.{eq-eqb, ne-eqb, le-leb, lt-leb, leb-false, eqb-true, eqb-false}
+use Rattle.number.specs.BigEndian.{be, bytesOf, overwritten, Stores}
+use Rattle.number.proofs.BigEndian.{length-bytesOf, length-overwritten, bytes-bytesOf, be-bytesOf-mod, bytesOf-be, stored-fits}
 use Rattle.layout.specs.Kinds.{Kind}
 use Rattle.layout.specs.Values.{Value}
-use Rattle.layout.specs.Limits.{bufferTooSmall}
+use Rattle.layout.specs.Limits.{oversize, bufferTooSmall, longest}
 use Rattle.field.specs.declared.Cursor.{Cursor}
 use Rattle.layout.specs.Writing.{encode, encodeAll}
-use Rattle.store.specs.Stored.{Stored, left, place, refusal, roomAt, Room, Put, Puts, none, more, concat, Fields, done, field}
+use Rattle.store.specs.Stored.{Stored, left, place, refusal, roomAt, Room, runFrom, Put, Puts, none, more, concat, Fields, done, field}
 
 -- the bytes of a number are those of its remainder
 pub remainder : (w x : ℕ) → bytesOf w (x % 256 ^ w) ≡ bytesOf w x
@@ -43,6 +45,20 @@ module _ {c d : Cursor} {w : ℕ} {e l : List ℕ} (size : length e ≡ w) (r : 
 
   pub put-stored : {m : List ℕ} → d .code ≡ 0 → m ≡ overwritten l (d .at) e → Put l c e m (place (d .at + w))
   put-stored {m} h o = record { is = rw (size, ← (r .is), eq-eqb (d .code) 0 h, o) }
+
+-- a number at a place: it was stored, or there was no room
+module _ {w x : ℕ} {l m : List ℕ} {c : Cursor} (h : c .code ≡ 0) where
+  pub number-put : Stores w l (c .at) x m true → Put l c (bytesOf w x) m (place (c .at + w))
+  number-put s = put-stored (length-bytesOf w x) (room-found c w (length l) h (stored-fits s)) h (s .leaves)
+
+  pub number-short : Stores w l (c .at) x m false → Put l c (bytesOf w x) m (refusal bufferTooSmall)
+  number-short s =
+      rw (s .leaves)
+      (put-refused (length-bytesOf w x) (room-none c w (length l) h (leb-false (c .at + w) (length l) (sym (s .fits)))) (λ z. omega arith))
+
+-- at a refused cursor nothing is stored
+pub put-stays : (c : Cursor) (l e : List ℕ) → (c .code ≡ 0 → ⊥) → Put l c e l c
+put-stays c l e h = put-refused refl (room-refused c (length e) (length l) h) h
 
 -- ---- one after another
 
@@ -121,3 +137,64 @@ pub fields-then : {l m n : List ℕ} {c d f : Cursor} {ks ks′ : List Kind} {vs
     → Fields l c ks vs m d → Fields m d ks′ vs′ n f → Fields l c (ks ++ ks′) (vs ++ vs′) n f
 fields-then done q = q
 fields-then (field p r) q = field p (fields-then r q)
+
+-- where something was stored, it was stored from a place
+pub put-from : {l m e : List ℕ} {c d : Cursor} → Put l c e m d → d .code ≡ 0 → c .code ≡ 0
+put-from {c = c} {d = d} p z = go (eqb (c .code) 0) refl
+  where
+    go : (b : Bool) → eqb (c .code) 0 ≡ b → c .code ≡ 0
+    go true t = eqb-true (c .code) 0 t
+    go false t = ap (λ (x : Cursor). x .code) (sym (nothing-put p (eqb-false (c .code) 0 t) .1)) ∙ z
+
+pub puts-from : {l m : List ℕ} {c d : Cursor} {es : List (List ℕ)} → Puts l c es m d → d .code ≡ 0 → c .code ≡ 0
+puts-from none z = z
+puts-from (more p q) z = put-from p (puts-from q z)
+
+-- a run that is not longer than any message is stored where it stands
+pub run-put : {l e m : List ℕ} {c d : Cursor} {n : ℕ} → (c .code ≡ 0 → n ≤ longest) → Put l (runFrom c n) e m d → Put l c e m d
+unfolding runFrom
+run-put {l} {e} {m} {c} {d} {n} short p = go (eqb (c .code) 0) refl
+  where
+    go : (b : Bool) → eqb (c .code) 0 ≡ b → Put l c e m d
+    go true t = rw (t, le-leb n longest (short (eqb-true (c .code) 0 t))) at p
+    go false t = rw t at p
+
+-- in a message that was checked to be no longer than the longest, no run is
+pub run-within : {size len : ℕ} {l m n e : List ℕ} {c d f : Cursor} {es : List (List ℕ)} → (c .code ≡ 0 → size ≤ longest) → Puts l c es m d → len ≤ size
+    → Put m (runFrom d len) e n f → Put m d e n f
+run-within checked q h p = run-put (λ z. let s = checked (puts-from q z) in omega (arith, h, s)) p
+
+pub run-refused : (c : Cursor) (n : ℕ) → (c .code ≡ 0 → ⊥) → runFrom c n ≡ c
+unfolding runFrom
+run-refused c n h = rw (ne-eqb (c .code) 0 h)
+
+pub run-oversize : (c : Cursor) (n : ℕ) → c .code ≡ 0 → longest < n → runFrom c n ≡ refusal oversize
+unfolding runFrom
+run-oversize c n h l = rw (eq-eqb (c .code) 0 h, lt-leb n longest l)
+
+pub run-fits : (c : Cursor) (n : ℕ) → c .code ≡ 0 → n ≤ longest → runFrom c n ≡ c
+unfolding runFrom
+run-fits c n h l = rw (eq-eqb (c .code) 0 h, le-leb n longest l)
+
+-- ---- several pieces whose whole room was tested: all of them, or none
+
+same-cursor : {c d : Cursor} → c .code ≡ d .code → c .at ≡ d .at → c ≡ d
+same-cursor e f = λ i. record { code = e i; at = f i }
+
+pub whole-put : {l m : List ℕ} {c d f : Cursor} {w : ℕ} {es : List (List ℕ)} (e : List ℕ) → concat es ≡ e → length e ≡ w → Room c w (length l) d → Puts l d es m f
+    → Put l c e m f
+whole-put {l} {m} {c} {d} {f} {w} {es} e same size r q = go (eqb (d .code) 0) refl
+  where
+    all : d .code ≡ 0 → Put l c e m f
+    all z =
+        let fit : d .at + length (concat es) ≤ length l = rw (same, size) (r .fits z) in
+        let s = each-put q z fit in
+        let at : f ≡ place (d .at + w) = same-cursor (s .1) (s .2 ∙ rw (same, size)) in
+        rw at (put-stored size r z (s .0 ∙ rw same))
+
+    go : (b : Bool) → eqb (d .code) 0 ≡ b → Put l c e m f
+    go true z = all (eqb-true (d .code) 0 z)
+    go false z =
+        let h = eqb-false (d .code) 0 z in
+        let s = none-put q h in
+        rw (s .0, s .1) (put-refused size r h)

@@ -8,7 +8,7 @@ use lib.ListN.{length}
 use Rattle.number.specs.BigEndian.{overwritten}
 use Rattle.layout.specs.Kinds.{Kind}
 use Rattle.layout.specs.Values.{Value}
-use Rattle.layout.specs.Limits.{bufferTooSmall}
+use Rattle.layout.specs.Limits.{oversize, bufferTooSmall, longest}
 use Rattle.layout.specs.Writing.{encode}
 use Rattle.field.specs.declared.Cursor.{Cursor}
 
@@ -28,6 +28,10 @@ roomAt c w n = cond (eqb (c .code) 0) (cond (leb (c .at + w) n) c (refusal buffe
 pub record Room (c : Cursor) (w n : ℕ) (d : Cursor) : Type 0 where
   pub is : d ≡ roomAt c w n
   pub fits : d .code ≡ 0 → d .at + w ≤ n
+
+-- the cursor, or a refusal where a run of n bytes is longer than any message
+unfoldable pub runFrom : Cursor → ℕ → Cursor
+runFrom c n = cond (eqb (c .code) 0) (cond (leb n longest) c (refusal oversize)) c
 
 -- the buffer, and the cursor behind what was stored
 pub record Stored : Type 0 where

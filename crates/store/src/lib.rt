@@ -1,18 +1,26 @@
 // The fields of a message, stored one after another at a cursor of the lent buffer. A cursor is a place, or a refusal, which
-// stays: a field that is stored at a refused cursor changes no byte. So a message is checked once, before its first byte is
-// stored, and written in straight lines.
+// stays: a field that is stored at a refused cursor changes no byte, nor does one that does not fit. So a message is checked
+// once, before its first byte is stored, and written in straight lines.
 ghost use mathlib.Core.Path.{_≡_};
-ghost use mathlib.Core.List.{[], _∷_};
+ghost use mathlib.Core.List.{_++_};
 ghost use Prim.Native.Nat.{_+_, _≤_};
 ghost use lib.ListN.{length};
 ghost use Rattle.number.specs.BigEndian.{bytesOf, overwritten};
 ghost use Rattle.number.specs.TwosComplement.{bitsOf};
-ghost use Rattle.layout.specs.Writing.{bit};
-ghost use Rattle.store.specs.Stored.{Room, Put, Puts};
+ghost use Rattle.layout.specs.Writing.{bit, sized};
+ghost use Rattle.store.specs.Stored.{Room, Put, runFrom};
 use field::Cursor;
 
-// The cursor, or refusal 7 where `size` bytes at it do not fit into `len`.
-fn room(c: Cursor, size: usize, len: usize) -> Cursor
+// Document 01's refusals of a store.
+const OVERSIZE: u8 = 2;
+
+const BUFFER_TOO_SMALL: u8 = 7;
+
+// The bytes of the longest message: no run is longer.
+const LONGEST: usize = 65536;
+
+// The cursor, or a refusal where `size` bytes at it do not fit into a buffer of `len`: what several stores test before the first.
+pub fn room(c: Cursor, size: usize, len: usize) -> Cursor
     ensures { λ r. ⌜ Room c size len r ⌝ }
 {
     let code = c.code;
@@ -21,10 +29,16 @@ fn room(c: Cursor, size: usize, len: usize) -> Cursor
         return c;
     }
     if len < size {
-        return Cursor { code: 7, at: 0 };
+        return Cursor {
+            code: BUFFER_TOO_SMALL,
+            at: 0,
+        };
     }
     if len - size < at {
-        return Cursor { code: 7, at: 0 };
+        return Cursor {
+            code: BUFFER_TOO_SMALL,
+            at: 0,
+        };
     }
     c
 }
@@ -33,48 +47,60 @@ fn room(c: Cursor, size: usize, len: usize) -> Cursor
 pub fn put_u8(out: &mut [u8], c: Cursor, x: u8) -> Cursor
     ensures { λ r. ⌜ Put (now (out .entry)) c (bytesOf 1 x) (now (out .exit)) r ⌝ }
 {
-    let start = room(c, 1, out.len());
-    let code = start.code;
-    let at = start.at;
+    let code = c.code;
+    let at = c.at;
     if code != 0 {
-        return start;
+        return c;
     }
-    number::store_u8(out, at, x);
+    if number::store_u8(out, at, x) {
+        return Cursor {
+            code: 0,
+            at: at + 1,
+        };
+    }
     Cursor {
-        code: 0,
-        at: at + 1,
+        code: BUFFER_TOO_SMALL,
+        at: 0,
     }
 }
 
 pub fn put_u32(out: &mut [u8], c: Cursor, x: u32) -> Cursor
     ensures { λ r. ⌜ Put (now (out .entry)) c (bytesOf 4 x) (now (out .exit)) r ⌝ }
 {
-    let start = room(c, 4, out.len());
-    let code = start.code;
-    let at = start.at;
+    let code = c.code;
+    let at = c.at;
     if code != 0 {
-        return start;
+        return c;
     }
-    number::store_u32(out, at, x);
+    if number::store_u32(out, at, x) {
+        return Cursor {
+            code: 0,
+            at: at + 4,
+        };
+    }
     Cursor {
-        code: 0,
-        at: at + 4,
+        code: BUFFER_TOO_SMALL,
+        at: 0,
     }
 }
 
 pub fn put_u64(out: &mut [u8], c: Cursor, x: u64) -> Cursor
     ensures { λ r. ⌜ Put (now (out .entry)) c (bytesOf 8 x) (now (out .exit)) r ⌝ }
 {
-    let start = room(c, 8, out.len());
-    let code = start.code;
-    let at = start.at;
+    let code = c.code;
+    let at = c.at;
     if code != 0 {
-        return start;
+        return c;
     }
-    number::store_u64(out, at, x);
+    if number::store_u64(out, at, x) {
+        return Cursor {
+            code: 0,
+            at: at + 8,
+        };
+    }
     Cursor {
-        code: 0,
-        at: at + 8,
+        code: BUFFER_TOO_SMALL,
+        at: 0,
     }
 }
 
@@ -131,19 +157,32 @@ fn copy(out: &mut [u8], at: usize, s: &[u8])
     }
 }
 
-// A text or data: its length, then all of it (document 01: run). The remainder is the length of every run that is not oversize.
+// A text or data: its length, then all of it (document 01: run). One that is longer than any message is refused, so that the length that
+// is stored is its own; and the room for both is tested before the first is stored.
 pub fn put_run(out: &mut [u8], c: Cursor, s: &[u8]) -> Cursor
-    ensures { λ r. ⌜ Puts (now (out .entry)) c (bytesOf 4 (length (now (s .entry))) ∷ now (s .entry) ∷ []) (now (out .exit)) r ⌝ }
+    ensures { λ r. ⌜ Put (now (out .entry)) (runFrom c (length (now (s .entry)))) (sized (now (s .entry))) (now (out .exit)) r ⌝ }
 {
-    let len = (s.len() % 0x1_0000_0000) as u32;
-    let first = put_u32(out, c, len);
-    put_all(out, first, s)
+    let code = c.code;
+    let len = s.len();
+    if code != 0 {
+        return c;
+    }
+    if LONGEST < len {
+        return Cursor {
+            code: OVERSIZE,
+            at: 0,
+        };
+    }
+    let start = room(c, 4 + len, out.len());
+    let behind_length = put_u32(out, start, len as u32);
+    put_all(out, behind_length, s)
 }
 
-// The header of a message: its id and its type.
+// The header of a message: its id and its type, where there is room for both.
 pub fn put_header(out: &mut [u8], c: Cursor, id: u32, kind: u8) -> Cursor
-    ensures { λ r. ⌜ Puts (now (out .entry)) c (bytesOf 4 id ∷ bytesOf 1 kind ∷ []) (now (out .exit)) r ⌝ }
+    ensures { λ r. ⌜ Put (now (out .entry)) c (bytesOf 4 id ++ bytesOf 1 kind) (now (out .exit)) r ⌝ }
 {
-    let first = put_u32(out, c, id);
-    put_u8(out, first, kind)
+    let start = room(c, 5, out.len());
+    let behind_id = put_u32(out, start, id);
+    put_u8(out, behind_id, kind)
 }

@@ -1,27 +1,38 @@
-// Timestamps, attributes and statistics, stored member after member at a cursor of the lent buffer.
+// Timestamps, attributes and statistics, stored member after member at a cursor of the lent buffer. The room for all members is tested
+// before the first is stored.
 ghost use mathlib.Core.List.{[], _∷_};
 ghost use Rattle.layout.specs.Kinds.{u32 as kind·u32, u64 as kind·u64, num, kinds, attributes as attributes·fields, statistics as statistics·fields};
 ghost use Rattle.layout.specs.Values.{number};
 ghost use Rattle.field.specs.Values.{attributesValues, statisticsValues};
-ghost use Rattle.store.specs.Stored.{Fields};
+ghost use Rattle.layout.specs.Writing.{encodeAll};
+ghost use Rattle.store.specs.Stored.{Put};
 use field::Attributes;
 use field::Cursor;
 use field::Statistics;
 use field::Timestamp;
 
+// The bytes of each.
+const TIMESTAMP_SIZE: usize = 12;
+
+const ATTRIBUTES_SIZE: usize = 88;
+
+const STATISTICS_SIZE: usize = 64;
+
 // A timestamp: its seconds, then its nanoseconds.
 pub fn put_timestamp(out: &mut [u8], c: Cursor, time: Timestamp) -> Cursor
-    ensures { λ r. ⌜ Fields (now (out .entry)) c (num kind·u64 ∷ num kind·u32 ∷ []) (number (time .seconds) ∷ number (time .nsec) ∷ []) (now (out .exit)) r ⌝ }
+    ensures { λ r. ⌜ Put (now (out .entry)) c (encodeAll (num kind·u64 ∷ num kind·u32 ∷ []) (number (time .seconds) ∷ number (time .nsec) ∷ [])) (now (out .exit)) r ⌝ }
 {
-    let seconds = store::put_u64(out, c, time.seconds);
+    let start = store::room(c, TIMESTAMP_SIZE, out.len());
+    let seconds = store::put_u64(out, start, time.seconds);
     store::put_u32(out, seconds, time.nsec)
 }
 
-// The 88 bytes of attributes.
+// Attributes: their numbers, then three timestamps.
 pub fn put_attributes(out: &mut [u8], c: Cursor, attributes: Attributes) -> Cursor
-    ensures { λ r. ⌜ Fields (now (out .entry)) c (kinds attributes·fields) (attributesValues attributes) (now (out .exit)) r ⌝ }
+    ensures { λ r. ⌜ Put (now (out .entry)) c (encodeAll (kinds attributes·fields) (attributesValues attributes)) (now (out .exit)) r ⌝ }
 {
-    let inode = store::put_u64(out, c, attributes.inode);
+    let start = store::room(c, ATTRIBUTES_SIZE, out.len());
+    let inode = store::put_u64(out, start, attributes.inode);
     let nlink = store::put_u64(out, inode, attributes.nlink);
     let mode = store::put_u32(out, nlink, attributes.mode);
     let uid = store::put_u32(out, mode, attributes.uid);
@@ -34,11 +45,12 @@ pub fn put_attributes(out: &mut [u8], c: Cursor, attributes: Attributes) -> Curs
     put_timestamp(out, mtime, attributes.ctime)
 }
 
-// The 64 bytes of statistics.
+// Statistics: eight numbers.
 pub fn put_statistics(out: &mut [u8], c: Cursor, statistics: Statistics) -> Cursor
-    ensures { λ r. ⌜ Fields (now (out .entry)) c (kinds statistics·fields) (statisticsValues statistics) (now (out .exit)) r ⌝ }
+    ensures { λ r. ⌜ Put (now (out .entry)) c (encodeAll (kinds statistics·fields) (statisticsValues statistics)) (now (out .exit)) r ⌝ }
 {
-    let bsize = store::put_u64(out, c, statistics.bsize);
+    let start = store::room(c, STATISTICS_SIZE, out.len());
+    let bsize = store::put_u64(out, start, statistics.bsize);
     let frsize = store::put_u64(out, bsize, statistics.frsize);
     let blocks = store::put_u64(out, frsize, statistics.blocks);
     let bfree = store::put_u64(out, blocks, statistics.bfree);

@@ -3,7 +3,8 @@ use mathlib.Core.Path.{_≡_, sym, ap, _∙_}
 use mathlib.Core.Bool.{Bool, true}
 use mathlib.Core.List.{List, _++_}
 use Prim.Native.Nat.{ℕ, _^_, _≤_, _<_}
-use lib.ListN.{length, take, drop}
+use native.Mathlib.Omega.{arith}
+use lib.ListN.{length, take, drop, length-append}
 use lib.Seq.{take-at}
 use Rattle.number.specs.BigEndian.{Bytes}
 use Rattle.layout.specs.Table.{Side, plan}
@@ -11,7 +12,7 @@ use Rattle.layout.specs.Values.{Part, Value, contents, AllFit}
 use Rattle.layout.specs.Reading.{Shape, accepted, read}
 use Rattle.layout.specs.Pieces.{kindsOf}
 use Rattle.layout.specs.Normal.{normalised}
-use Rattle.layout.specs.Writing.{Written as Outcome, stored, encodeMessage, write}
+use Rattle.layout.specs.Writing.{Written as Outcome, stored, lengthOf, encodeMessage, write}
 use Rattle.layout.proofs.Tests.{apart}
 use Rattle.layout.proofs.Written.{ReadsBack, write-finished, written-back, Untouched, write-untouched}
 use Rattle.layout.proofs.Rewritten.{written-again}
@@ -50,12 +51,21 @@ module _ (side : Side) (s : Shape) (i t : ℕ) where
       let u = write-untouched side s i t vs summed out .keeps (sym (w .tells)) in
       (u .0, w .leaves ∙ u .1)
 
+  -- the reported bytes lie inside the buffer
+  pub length-inside : (vs : List (Value (List ℕ))) (summed : Bool) (out : List ℕ) {after : List ℕ} (r : Written)
+      → Wrote (write side s i t vs summed out) after r → lengthOf (toldOf r) ≤ length after
+  length-inside vs summed out {after} (Stored n) w =
+      let f = write-finished side s i t vs summed out (sym (w .tells)) .finished in
+      omega (arith, f .size, ap length (rest-kept vs summed out w), length-append (encodeMessage side s i t vs) (drop n out))
+  length-inside vs summed out (Refused n p) w = omega arith
+
 -- k bytes were stored, and e stands in front of what stays of the buffer
 pub record Rewritten (e out : List ℕ) (k : ℕ) (after : List ℕ) (r : Written) : Type 0 where
   pub tells : r ≡ Stored k
   pub leaves : after ≡ e ++ drop k out
 
-stored-told : (r : Written) {k : ℕ} → toldOf r ≡ stored k → r ≡ Stored k
+-- an answer that tells so is so
+pub stored-told : (r : Written) {k : ℕ} → toldOf r ≡ stored k → r ≡ Stored k
 stored-told (Stored n) e = cc
 stored-told (Refused n p) e = let z : _≡_ {A = ℕ} 0 1 = cc in apart z
 

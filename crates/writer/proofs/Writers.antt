@@ -1,19 +1,19 @@
 -- Laws of how a writer begins and ends. Assumes nothing.
-use mathlib.Core.Path.{_≡_, refl, subst, _∙_}
+use mathlib.Core.Path.{_≡_, refl, sym, ap, subst, _∙_}
 use mathlib.Core.Bool.{Bool, true, false, cond}
-use mathlib.Core.List.{List, [], _∷_, _++_}
+use mathlib.Core.List.{List, [], _∷_, _++_, append-assoc, append-nil}
 use Prim.Native.Nat.{ℕ, _+_, _≤_, _<_}
 use native.Mathlib.Omega.{arith}
 use lib.Dec.{leb}
 use lib.ListN.{length, length-append}
-use borrow.Author.Tests.{eq-eqb, ne-eqb, le-leb, lt-leb, leb-true}
+use borrow.Author.Tests.{eq-eqb, ne-eqb, le-leb, lt-leb, leb-true, leb-false}
 use Rattle.number.specs.BigEndian.{bytesOf, overwritten}
 use Rattle.number.proofs.BigEndian.{length-bytesOf}
 use Rattle.layout.specs.Limits.{oversize, malformedText, bufferTooSmall, longest}
 use Rattle.layout.specs.Writing.{Written as Outcome, check, refuse, store, storeChecked}
 use Rattle.field.specs.declared.Cursor.{Cursor}
-use Rattle.store.specs.Stored.{place, refusal, Puts, concat}
-use Rattle.store.proofs.Storing.{none-put, each-put}
+use Rattle.store.specs.Stored.{place, refusal, roomAt, storeAt, Put, Puts, none, more, concat}
+use Rattle.store.proofs.Storing.{room-none, room-refused, none-put, each-put}
 use Rattle.writer.specs.declared.Written.{Written}
 use Rattle.writer.specs.Writers.{admitted, Ends, Wrote}
 
@@ -67,10 +67,52 @@ module _ {l n : List ℕ} {f : Cursor} {es : List (List ℕ)} {r : Written} (end
       go false h q = refusing bufferTooSmall (omega arith) q
       go true h q = storing e same (leb-true (length e) (length l) h) q
 
--- a message that is its header alone
-pub headed : (i t : ℕ) {l n : List ℕ} {f : Cursor} {r : Written} → Ends f r → Puts l (admitted true 5 (length l)) (bytesOf 4 i ∷ bytesOf 1 t ∷ []) n f
+-- a message that passed these checks is not longer than the longest
+admitted-size : (ok : Bool) (size n : ℕ) → admitted ok size n .code ≡ 0 → size ≤ longest
+unfolding admitted
+admitted-size false size n z = let none : ⊥ = omega arith in absurd none
+admitted-size true size n z = go (leb size longest) refl z
+  where
+    go : (b : Bool) → leb size longest ≡ b → cond b (cond (leb size n) (place 0) (refusal bufferTooSmall)) (refusal oversize) .code ≡ 0 → size ≤ longest
+    go true h z = leb-true size longest h
+    go false h z = let none : ⊥ = omega arith in absurd none
+
+pub admitted-within : {c : Cursor} (ok : Bool) (size n : ℕ) → c ≡ admitted ok size n → c .code ≡ 0 → size ≤ longest
+admitted-within ok size n e z = admitted-size ok size n (ap (λ (c : Cursor). c .code) (sym e) ∙ z)
+
+-- ---- a header alone
+
+-- a store tests its own room: at the start of the buffer that is the same check
+room-admitted : (w n : ℕ) → w ≤ longest → roomAt (place 0) w n ≡ roomAt (admitted true w n) w n
+room-admitted w n h = go (leb w n) refl
+  where
+    go : (b : Bool) → leb w n ≡ b → roomAt (place 0) w n ≡ roomAt (admitted true w n) w n
+    go true t = ap (λ (c : Cursor). roomAt c w n) (admit-found w n h (leb-true w n t))
+    go false t =
+        let small : n < 0 + w = omega (arith, leb-false w n t) in
+        sym (room-none (place 0) w n refl small .is)
+        ∙ room-refused (refusal bufferTooSmall) w n (λ z. omega arith) .is
+        ∙ ap (λ (c : Cursor). roomAt c w n) (admit-no-room w n h (leb-false w n t))
+
+-- a message that is its header, stored from the start of the buffer
+pub headed : (i t : ℕ) {l n : List ℕ} {f : Cursor} {r : Written} → Ends f r → Put l (place 0) (bytesOf 4 i ++ bytesOf 1 t) n f
     → Wrote (storeChecked (bytesOf 4 i ++ (bytesOf 1 t ++ [])) l) n r
-headed i t {l} {n} {f} end q =
-    let size : 5 ≡ length (bytesOf 4 i ++ (bytesOf 1 t ++ [])) =
-    omega (arith, length-append (bytesOf 4 i) (bytesOf 1 t ++ []), length-append (bytesOf 1 t) [], length-bytesOf 4 i, length-bytesOf 1 t) in
-    wrote end true (bytesOf 4 i ++ (bytesOf 1 t ++ [])) refl (subst (λ (k : ℕ). Puts l (admitted true k (length l)) (bytesOf 4 i ∷ bytesOf 1 t ∷ []) n f) size q)
+headed i t {l} {n} {f} end q = wrote end true whole same (subst (λ (k : ℕ). Puts l (admitted true k (length l)) (header ∷ []) n f) size (more checked none))
+  where
+    header : List ℕ
+    header = bytesOf 4 i ++ bytesOf 1 t
+
+    whole : List ℕ
+    whole = bytesOf 4 i ++ (bytesOf 1 t ++ [])
+
+    same : header ++ [] ≡ whole
+    same = append-assoc (bytesOf 4 i) (bytesOf 1 t) []
+
+    five : length header ≡ 5
+    five = omega (arith, length-append (bytesOf 4 i) (bytesOf 1 t), length-bytesOf 4 i, length-bytesOf 1 t)
+
+    size : length header ≡ length whole
+    size = ap length (sym (append-nil header) ∙ same)
+
+    checked : Put l (admitted true (length header) (length l)) header n f
+    checked = record { is = q .is ∙ ap (λ (d : Cursor). storeAt d header l) (room-admitted (length header) (length l) (omega (arith, five))) }

@@ -1,12 +1,10 @@
 // How every writer begins and ends: the checks before its first byte, and its answer. Between them it stores its fields (`store`).
 ghost use mathlib.Core.Path.{_≡_};
 ghost use mathlib.Core.Bool.{true};
-ghost use mathlib.Core.List.{[], _++_};
 ghost use Prim.Native.Nat.{_+_};
-ghost use Rattle.number.specs.BigEndian.{bytesOf};
 ghost use Rattle.text.specs.Utf8.{wellFormed};
-ghost use Rattle.layout.specs.Writing.{lengthOf, storeChecked};
-ghost use Rattle.writer.specs.Writers.{toldOf, Ends, admitted, Wrote};
+ghost use Rattle.layout.specs.Writing.{lengthOf};
+ghost use Rattle.writer.specs.Writers.{toldOf, Ends, admitted};
 use field::Cursor;
 
 // What a writer answers: so many bytes were stored, or document 01's number of refusal, with its place.
@@ -81,13 +79,4 @@ fn measured(first: usize, second: usize, rest: usize, len: usize) -> Cursor
         return Cursor { code: 7, at: 0 };
     }
     Cursor { code: 0, at: 0 }
-}
-
-// A message that is its header alone.
-pub fn write_header(id: u32, kind: u8, out: &mut [u8]) -> Written
-    ensures { λ r. ⌜ Wrote (storeChecked (bytesOf 4 id ++ (bytesOf 1 kind ++ [])) (now (out .entry))) (now (out .exit)) r ⌝ }
-{
-    let place = admit(true, 0, 0, 5, out.len());
-    let header = store::put_header(out, place, id, kind);
-    finish(header)
 }

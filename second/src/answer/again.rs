@@ -35,7 +35,7 @@ fn request_line(message: &[u8], mut buffer: Vec<u8>) -> String {
     written_line(&buffer, written)
 }
 
-fn reply_line(message: &[u8], mut buffer: Vec<u8>) -> String {
+pub fn reply_line(message: &[u8], mut buffer: Vec<u8>) -> String {
     let written = match read_reply(message) {
         Reply::Success { id, method, result, .. } if method.number == READDIR => {
             names_again(&mut buffer, id, result, message)

@@ -2,12 +2,14 @@
 
 use std::array;
 
+use crate::answer::again;
 use crate::answer::body::Body;
-use crate::answer::read::{part_text, REPLY_PARTS, REQUEST_PARTS};
+use crate::answer::read::{part_text, refusal_line, REPLY_PARTS, REQUEST_PARTS};
 use crate::answer::write::written_line;
 use crate::hash::hash;
 use crate::methods::READDIR;
 use crate::names::{collect_names, Names};
+use crate::refusal::{Refusal, BUFFER_TOO_SMALL};
 use crate::reply::{read_reply, reply_part, Reply};
 use crate::request::{read_request, request_part, Request};
 use crate::write_request::write_request;
@@ -36,18 +38,19 @@ fn request_line(message: &[u8], mut buffer: Vec<u8>) -> String {
     line
 }
 
-fn reply_line(message: &[u8], run: Vec<u8>) -> String {
+fn reply_line(message: &[u8], buffer: Vec<u8>) -> String {
     let mut line = format!("reply{}", reply_sizes(message));
     for name in Names::open(message) {
         line += &format!(" name={}", part_text(&name));
     }
     line += " end";
-    match read_reply(message) {
-        Reply::Success { method, .. } if method.number == READDIR => {
-            line + &collected_text(message, run)
+    if let Reply::Success { method, .. } = read_reply(message) {
+        if method.number == READDIR {
+            line += &collected_text(message, buffer.clone());
         }
-        _ => line,
+        line += &format!(" {}", again::reply_line(message, buffer));
     }
+    line
 }
 
 /// Length and checksum of each part of a reply.
@@ -65,7 +68,7 @@ fn collected_text(message: &[u8], mut run: Vec<u8>) -> String {
     let mut lengths: [u32; LENGTHS] = array::from_fn(|index| index as u32 * 7 + 3);
     let told = match collect_names(message, &mut run, &mut lengths) {
         Some(names) => format!("collected {} {}", names.count, names.length),
-        None => "no-room".to_string(),
+        None => refusal_line(Refusal { number: BUFFER_TOO_SMALL, place: 0 }),
     };
     let list: Vec<u8> = lengths.into_iter().flat_map(u32::to_be_bytes).collect();
     format!(" {told} {} {}", hash(&run), hash(&list))

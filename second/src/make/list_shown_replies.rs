@@ -34,6 +34,7 @@ pub fn add(out: &mut Vec<Case>) {
     }
     for method in &METHODS {
         add_successes(out, method);
+        add_rooms(out, method);
         add_length(out, method);
         add_failures(out, method);
         add_texts(out, method);
@@ -53,6 +54,14 @@ fn add_successes(out: &mut Vec<Case>, method: &Method) {
     if !method.reply.is_empty() {
         out.push(reply(ROOM, &success(method, Style::Zeros)));
         out.push(reply(ROOM, &success(method, Style::Greatest)));
+    }
+}
+
+/// Buffers around the one that the reply is written again into.
+fn add_rooms(out: &mut Vec<Case>, method: &Method) {
+    let message = success(method, Style::Counting);
+    for room in [0, message.len() - 1, message.len(), message.len() + 9] {
+        out.push(reply(room, &message));
     }
 }
 

@@ -8,6 +8,7 @@ use crate::make::random_messages::{message, mutate};
 use crate::make::random_values::{id, puts, text};
 use crate::methods::{method_of_request, METHODS, READDIR};
 use crate::names::Names;
+use crate::reply::{read_reply, Reply};
 use crate::request::{read_request, Request};
 use crate::store::header;
 
@@ -26,7 +27,8 @@ const BAD: usize = 1;
 pub fn case(prng: &mut Prng) -> Case {
     let side = prng.pick(&[Side::Request, Side::Reply]);
     let message = short_message(prng, side);
-    let room = room(prng, needed(side, &message));
+    let needed = needed(prng, side, &message);
+    let room = room(prng, needed);
     shown(side, room, &message)
 }
 
@@ -46,7 +48,7 @@ fn short_message(prng: &mut Prng, side: Side) -> Vec<u8> {
     loop {
         let message = match prng.below(100) {
             0..=7 => beginning(prng),
-            8..=59 if side == Side::Reply => directory(prng),
+            8..=39 if side == Side::Reply => directory(prng),
             8..=29 => longer_texts(prng),
             _ => message(prng, side).bytes(),
         };
@@ -91,10 +93,16 @@ fn directory(prng: &mut Prng) -> Vec<u8> {
     draft.bytes
 }
 
-/// The bytes of the request that is written again, or of the names.
-fn needed(side: Side, message: &[u8]) -> usize {
+/// The bytes of the message that is written again, or those of its names.
+fn needed(prng: &mut Prng, side: Side, message: &[u8]) -> usize {
     if side == Side::Reply {
-        return Names::open(message).map(|name| name.bytes.len()).sum();
+        return match read_reply(message) {
+            Reply::Success { method, .. } if method.number == READDIR && prng.chance(50) => {
+                Names::open(message).map(|name| name.bytes.len()).sum()
+            }
+            Reply::Success { known, .. } => known,
+            _ => message.len(),
+        };
     }
     match read_request(message) {
         Request::Known { known, .. } => known,

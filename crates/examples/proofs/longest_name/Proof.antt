@@ -24,7 +24,7 @@ loop-again c =
     turned _ (positionOf (turn .loop .position)) (turn .loop .longest) (turn .loop .left) (omega arith)
     (c .before .before .before .step-from .ensures)
     (c .behind .ensures)
-    (c .before .before .name .ensures)
+    (c .before .before .name .ensures .bytes)
     (c .before .greater .ensures)
     ∙ turn .loop .inv
 

@@ -35,7 +35,7 @@ success-cells-spec =
     (λ c. λ m. rw (c .before .before .reply5 .given .1) (c .three-cells15 .ensures))
     (λ c. λ m. rw (c .before .enum-told12 .given .1) (c .three-cells16 .ensures))
     (λ c. λ m. rw (c .before .enum-told13 .given .1) (c .three-cells17 .ensures))
-    (λ c. λ m. rw (c .before .before .before .reply6 .given .1, length-namesAt _ m _) (c .three-cells18 .ensures))
+    (λ c. λ m. rw (c .before .before .reply6 .given .1, length-namesAt _ m _) (c .three-cells18 .ensures))
     (λ c. λ m. rw (c .before .enum-told14 .given .1) (c .three-cells19 .ensures))
     (λ c. λ m. rw (c .before .before .reply7 .given .1) (c .statistics-cells .ensures))
     (λ c. λ m. rw (c .before .enum-told15 .given .1) (c .three-cells20 .ensures)))

@@ -34,7 +34,7 @@ returns-2 c =
 returns-3 : tie.Need-returns-3
 returns-3 c =
     let before = c .before .before .before in
-    num-truncated 1 (start before .args .c) (before .if1 .left) 0 (sym (ap foundU8 (c .enum-told .given .1)) ∙ c .before .before .read-u8 .ensures)
+    num-truncated 1 (start before .args .c) (before .if1 .left) (sym (ap foundU8 (c .enum-told .given .1)) ∙ c .before .before .read-u8 .ensures)
 
 pub byte-at-spec : {M : Type 1} → statement M
 byte-at-spec = tie.close (tie.spec returns (λ c κs. search needs) (λ c. search needs) add-t9 (λ c. search needs) returns-2 returns-3)

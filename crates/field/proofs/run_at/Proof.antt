@@ -2,6 +2,7 @@
 use mathlib.Core.Path.{_≡_, refl, _∙_}
 use mathlib.Core.Bool.{true, false}
 use borrow.Author.Needs.{needs}
+use Rattle.layout.specs.Values.{part}
 use native.Mathlib.Omega.{arith}
 use Prim.Native.Nat.{_+_, _≤_}
 use lib.ListN.{length}
@@ -15,19 +16,19 @@ use Rattle.field.proofs.run_at.Tie as tie
 returns : tie.Need-returns
 returns c =
     let a = c .before .before .before .args in
-    rw (c .stopped .ensures) (stays (a .c) (runAt (validBy (a .text)) (a .len)) _ (c .before .if1 .taken))
+    rw (c .stopped .ensures .0, c .stopped .ensures .1) (stays (a .c) (runAt (validBy (a .text)) (a .len)) (part 0 0) (c .before .if1 .taken))
 
 returns-2 : tie.Need-returns-2
 returns-2 c =
     let b = c .before .before in
     let a = b .before .before .args in
-    rw (c .stopped2 .ensures) (run-truncated (validBy (a .text)) (a .len) (a .c) _ (b .if1 .left) (omega arith))
+    rw (c .stopped2 .ensures .0, c .stopped2 .ensures .1) (run-truncated (validBy (a .text)) (a .len) (a .c) (b .if1 .left) (part 0 0) (omega arith))
 
 returns-3 : tie.Need-returns-3
 returns-3 c =
     let b = c .before .before .before in
     let a = b .before .before .args in
-    rw (c .stopped3 .ensures) (run-truncated (validBy (a .text)) (a .len) (a .c) _ (b .if1 .left) (omega arith))
+    rw (c .stopped3 .ensures .0, c .stopped3 .ensures .1) (run-truncated (validBy (a .text)) (a .len) (a .c) (b .if1 .left) (part 0 0) (omega arith))
 
 returns-4 : tie.Need-returns-4
 returns-4 c =
@@ -35,8 +36,8 @@ returns-4 c =
     let b = w .before .before .before .before .before in
     let a = b .before .before .args in
     let inside : a .c .at + a .len ≤ length (a .m .now) = omega arith in
-    rw (c .stopped4 .ensures, w .before .before .if4 .taken)
-    (run-malformed wellFormed (a .len) (a .c) _ (b .if1 .left) inside (text-wrong (a .m .now) (a .c .at) (a .len) inside (w .well-formed-end .ensures) (c .before .if5 .taken)))
+    rw (c .stopped4 .ensures .0, c .stopped4 .ensures .1, w .before .before .if4 .taken)
+    (run-malformed wellFormed (a .len) (a .c) (b .if1 .left) (part 0 0) inside (text-wrong (a .m .now) (a .c .at) (a .len) inside (w .well-formed-end .ensures) (c .before .if5 .taken)))
 
 returns-5 : tie.Need-returns-5
 returns-5 c =
@@ -45,13 +46,13 @@ returns-5 c =
     let a = b .before .before .args in
     let inside : a .c .at + a .len ≤ length (a .m .now) = omega arith in
     rw (w .before .before .if4 .taken)
-    (run-whole wellFormed (a .len) (a .c) (b .if1 .left) inside (text-right (a .m .now) (a .c .at) (a .len) inside (w .well-formed-end .ensures) (c .if5 .left)))
+    (run-whole wellFormed (a .len) (a .c) (b .if1 .left) (part 0 0) inside (text-right (a .m .now) (a .c .at) (a .len) inside (w .well-formed-end .ensures) (c .if5 .left)))
 
 returns-6 : tie.Need-returns-6
 returns-6 c =
     let b = c .before .before .before in
     let a = b .before .before .args in
-    rw (c .if4 .left) (run-whole (validBy false) (a .len) (a .c) (b .if1 .left) (omega arith) refl)
+    rw (c .if4 .left) (run-whole (validBy false) (a .len) (a .c) (b .if1 .left) (part 0 0) (omega arith) refl)
 
 pub run-at-spec : {M : Type 1} → statement M
 run-at-spec =

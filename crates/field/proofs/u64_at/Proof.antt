@@ -35,7 +35,7 @@ returns-2 c =
 returns-3 : tie.Need-returns-3
 returns-3 c =
     let before = c .before .before .before in
-    map-ended (valueOf u64) (numAt 8) (num-truncated 8 (start before .args .c) (before .if1 .left) 0 (sym (ap foundU64 (c .enum-told .given .1)) ∙ c .before .before .read-u64 .ensures))
+    map-ended (valueOf u64) (numAt 8) (num-truncated 8 (start before .args .c) (before .if1 .left) (sym (ap foundU64 (c .enum-told .given .1)) ∙ c .before .before .read-u64 .ensures))
 
 pub u64-at-spec : {M : Type 1} → statement M
 u64-at-spec = tie.close (tie.spec returns (λ c κs. search needs) (λ c. search needs) add-t9 (λ c. search needs) returns-2 returns-3)

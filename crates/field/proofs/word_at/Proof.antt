@@ -34,7 +34,7 @@ returns-2 c =
 returns-3 : tie.Need-returns-3
 returns-3 c =
     let before = c .before .before .before in
-    num-truncated 4 (start before .args .c) (before .if1 .left) 0 (sym (ap foundU32 (c .enum-told .given .1)) ∙ c .before .before .read-u32 .ensures)
+    num-truncated 4 (start before .args .c) (before .if1 .left) (sym (ap foundU32 (c .enum-told .given .1)) ∙ c .before .before .read-u32 .ensures)
 
 pub word-at-spec : {M : Type 1} → statement M
 word-at-spec = tie.close (tie.spec returns (λ c κs. search needs) (λ c. search needs) add-t9 (λ c. search needs) returns-2 returns-3)

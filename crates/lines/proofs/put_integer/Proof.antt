@@ -1,22 +1,20 @@
 -- `lines::put_integer` meets its contract. Assumes nothing.
-use mathlib.Core.Path.{_≡_, ap, _∙_}
+use mathlib.Core.Path.{ap, _∙_}
 use mir.Syntax.{w32}
 use mir.ValLaws.{toZ-ofZ}
 use borrow.Author.Needs.{needs}
 use Rattle.number.specs.TwosComplement.{bitsOf}
-use Rattle.lines.proofs.Adding.{put-adds, adds-then}
 use Rattle.lines.proofs.Decimals.{negative-text, positive-text}
 use Rattle.lines.proofs.put_integer.Statement.{statement}
 use Rattle.lines.proofs.put_integer.Tie as tie
 
 returns : tie.Need-returns
 returns c =
-    let s = c .before .before .before .before .before .before .before .before .before .before .before .before in
+    let s = c .before .before .before .before .before .before .before in
     let e = toZ-ofZ w32 (s .args .x) (s .fits .x) in
-    let b = c .before .before .before .before .before .before .before .before .before .before .bits-of-i32 .ensures in
-    let t = c .before .before .before .before .before .before .before .before .before .if1 .taken in
-    rw (← (negative-text (s .args .x) (s .fits .x) (rw e at t)), ← (b ∙ ap (bitsOf 4) e))
-    (adds-then (put-adds (c .before .before .before .before .before .before .put-all .ensures)) (put-adds (c .before .before .put-decimal .ensures)))
+    let b = c .before .before .before .before .before .bits-of-i32 .ensures in
+    let t = c .before .before .before .before .if1 .taken in
+    rw (← (negative-text (s .args .x) (s .fits .x) (rw e at t)), ← (b ∙ ap (bitsOf 4) e)) (c .before .before .put-negative .ensures)
 
 returns-2 : tie.Need-returns-2
 returns-2 c =
@@ -24,7 +22,7 @@ returns-2 c =
     let e = toZ-ofZ w32 (s .args .x) (s .fits .x) in
     let b = c .before .before .before .before .before .bits-of-i32 .ensures in
     let t = c .before .before .before .before .if1 .left in
-    rw (← (positive-text (s .args .x) (rw e at t)), ← (b ∙ ap (bitsOf 4) e)) (put-adds (c .before .before .put-decimal2 .ensures))
+    rw (← (positive-text (s .args .x) (rw e at t)), ← (b ∙ ap (bitsOf 4) e)) (c .before .before .put-decimal .ensures)
 
 pub put-integer-spec : {M : Type 1} → statement M
 put-integer-spec =
@@ -32,8 +30,6 @@ put-integer-spec =
     (tie.spec
     (λ c κs. search needs)
     (λ c. search needs)
-    (λ c. search needs)
-    (λ c κs. search needs)
     (λ c. search needs)
     (λ c κs. search needs)
     (λ c. search needs)

@@ -1,11 +1,14 @@
 -- `lines::put_pair` meets its contract. Assumes nothing.
 use borrow.Author.Needs.{needs}
-use Rattle.lines.proofs.Adding.{entry-more}
+use Rattle.lines.specs.Lines.{decimal, entry}
+use Rattle.lines.proofs.Entries.{entry-then}
 use Rattle.lines.proofs.put_pair.Statement.{statement}
 use Rattle.lines.proofs.put_pair.Tie as tie
 
 returns : tie.Need-returns
-returns c = search entry-more
+returns c =
+    let a = c .before .before .before .before .before .before .before .args in
+    rw (← (entry-then (a .first .now) (decimal (a .a)) (entry (a .second .now) (decimal (a .b)) 10) 32)) (c .before .before .put-entries .ensures)
 
 pub put-pair-spec : {M : Type 1} → statement M
-put-pair-spec = tie.close (tie.spec (λ c κs. search needs) (λ c. search needs) (λ c κs. search needs) (λ c κs. search needs) (λ c. search needs) returns)
+put-pair-spec = tie.close (tie.spec (λ c κs. search needs) (λ c. search needs) returns)

@@ -1,25 +1,24 @@
--- `lines::put_signed` meets its contract. Assumes nothing.
-use mir.Syntax.{w32}
-use mir.ValLaws.{toZ-ofZ}
+-- `lines::put_signed` meets its contract: the number fits into its array. Assumes nothing.
+use lib.Dec.{lit≤}
 use borrow.Author.Needs.{needs}
-use Rattle.lines.proofs.Adding.{two-words}
+use Rattle.lines.proofs.Decimals.{integer-begins}
 use Rattle.lines.proofs.put_signed.Statement.{statement}
 use Rattle.lines.proofs.put_signed.Tie as tie
 
+array-share-prefix-value : tie.Need-array-share-prefix-value
+array-share-prefix-value c =
+    let s = c .before .before .before .before .before .before in
+    integer-begins (s .args .x) (s .fits .x) (lit≤ tt) (c .before .before .put-integer .ensures) .counts .0
+
+slice-aggregate-put-entry : tie.Need-slice-aggregate-put-entry
+slice-aggregate-put-entry c =
+    let s = c .before .before .before .before .before .before .before in
+    integer-begins (s .args .x) (s .fits .x) (lit≤ tt) (c .before .before .before .put-integer .ensures) .counts .1
+
 returns : tie.Need-returns
 returns c =
-    let s = c .before .before .before .before .before .before .before .before .before .before .before .before .before .before .before .before .before .before .before .before in
-    rw (← (toZ-ofZ w32 (s .args .x) (s .fits .x))) (two-words (c .before .before .before .before .before .before .before .before .before .before .before .before .before .before .before .before .put-all .ensures) (c .before .before .before .before .before .before .before .before .before .before .before .put-all2 .ensures) (c .before .before .before .before .before .before .before .put-integer .ensures) (c .before .before .put-all3 .ensures))
+    let s = c .before .before .before .before .before .before .before .before .before .before in
+    rw (integer-begins (s .args .x) (s .fits .x) (lit≤ tt) (c .before .before .before .before .before .before .put-integer .ensures) .is) at (c .before .before .put-entry .ensures)
 
 pub put-signed-spec : {M : Type 1} → statement M
-put-signed-spec =
-    tie.close
-    (tie.spec
-    (λ c κs. search needs)
-    (λ c. search needs)
-    (λ c κs. search needs)
-    (λ c κs. search needs)
-    (λ c. search needs)
-    (λ c κs. search needs)
-    (λ c. search needs)
-    returns)
+put-signed-spec = tie.close (tie.spec (λ c. search needs) (λ c κs. search needs) array-share-prefix-value slice-aggregate-put-entry (λ c κs. search needs) (λ c. search needs) returns)

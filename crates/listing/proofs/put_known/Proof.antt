@@ -1,14 +1,13 @@
 -- `listing::put_known` meets its contract. Assumes nothing.
 use borrow.Author.Needs.{needs}
-use Rattle.lines.specs.Lines.{more, none}
-use Rattle.lines.proofs.Adding.{lines-then}
+use Rattle.lines.proofs.Adding.{more, none, lines-then}
 use Rattle.listing.proofs.Rendering.{named}
 use Rattle.listing.proofs.put_known.Statement.{statement}
 use Rattle.listing.proofs.put_known.Tie as tie
 
 returns : tie.Need-returns
 returns c =
-    more
+    lines-then
     (named (rw (c .before .before .before .before .before .before .before .before .before .before .before .before .before .before .before .before .method-of .ensures) at (c .before .before .before .before .before .before .before .before .before .before .before .before .before .before .before .put-name .ensures)) (c .before .before .before .before .before .before .before .before .before .before .put-number .ensures))
     (lines-then (c .before .before .before .before .before .before .put-fields .ensures) (more (c .before .before .put-closing .ensures) none))
 

@@ -1,6 +1,6 @@
 -- `listing::put_refused` meets its contract. Assumes nothing.
 use borrow.Author.Needs.{needs}
-use Rattle.lines.specs.Lines.{more, none}
+use Rattle.lines.proofs.Adding.{more, none}
 use Rattle.listing.proofs.put_refused.Statement.{statement}
 use Rattle.listing.proofs.put_refused.Tie as tie
 

@@ -1,6 +1,6 @@
 -- `listing::put_unknown` meets its contract. Assumes nothing.
 use borrow.Author.Needs.{needs}
-use Rattle.lines.specs.Lines.{more, none}
+use Rattle.lines.proofs.Adding.{more, none}
 use Rattle.listing.proofs.put_unknown.Statement.{statement}
 use Rattle.listing.proofs.put_unknown.Tie as tie
 

@@ -1,7 +1,9 @@
 -- `names::name` meets its contract. Assumes nothing.
+use mathlib.Core.Path.{ap}
+use Prim.Native.Nat.{ℕ, _+_}
 use borrow.Author.Needs.{needs}
 use native.Mathlib.Omega.{arith}
-use Rattle.field.proofs.Cursors.{all-bytes}
+use Rattle.field.proofs.Cursors.{all-bytes, its-place}
 use Rattle.names.proofs.name.Statement.{statement}
 use Rattle.names.proofs.name.Tie as tie
 
@@ -9,7 +11,7 @@ returns : tie.Need-returns
 returns c = rw (c .before .before .step .given .1) (c .bytes-of .ensures)
 
 returns-2 : tie.Need-returns-2
-returns-2 c = rw (c .before .enum-told .given .1) (all-bytes _ 0 0 (omega arith))
+returns-2 c = rw (c .before .enum-told .given .1) (record { bytes = all-bytes _ 0 0 (omega arith); place = ap (λ (k : ℕ). (c .before .before .before .before .args .m .ptr .0, k + c .before .before .before .before .args .m .ptr .1)) (its-place (c .before .before .before .before .args .m .now) 0 0 (omega arith)) })
 
 pub name-spec : {M : Type 1} → statement M
 name-spec =

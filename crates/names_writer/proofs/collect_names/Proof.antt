@@ -15,7 +15,7 @@ returns c =
     collects-all (sym (answer .answer .given .1) ∙ answer .before .before .count-names .ensures) (copy .copy-names .ensures)
 
 returns-2 : tie.Need-returns-2
-returns-2 c = record { answers = sym (c .enum-told .given .1) ∙ c .before .before .count-names .ensures; leaves = refl }
+returns-2 c = record { answers = sym (c .before .answer2 .given .1) ∙ c .before .before .before .count-names .ensures; leaves = refl }
 
 pub collect-names-spec : {M : Type 1} → statement M
 collect-names-spec =

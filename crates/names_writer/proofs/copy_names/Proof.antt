@@ -4,19 +4,20 @@ use Prim.Native.Nat.{_+_}
 use native.Mathlib.Omega.{arith}
 use borrow.Author.Needs.{needs}
 use Rattle.layout.specs.Values.{part}
+use Rattle.layout.specs.Names.{firstName}
 use Rattle.names_writer.proofs.Taking.{NameHere, name-given, namesOn, names-next, joined-length, names-none, names-ended}
 use Rattle.names_writer.proofs.Copying.{CopyLeft, copy-all, copy-end, copy-index, copy-next}
 use Rattle.names_writer.proofs.copy_names.Statement.{statement}
 use Rattle.names_writer.proofs.copy_names.Tie as tie
 
 abbrev Inv-loop : tie.InvT-loop
-Inv-loop m run₀ lengths₀ behind₀ at₀ left₀ done₀ run lengths behind at left done = CopyLeft m (namesOn m at₀ left₀) (namesOn m at left) run₀ lengths₀ run lengths behind done
+Inv-loop m count run₀ lengths₀ behind₀ at₀ left₀ done₀ run lengths behind at left done = CopyLeft m (namesOn m at₀ left₀) (namesOn m at left) run₀ lengths₀ run lengths behind done
 
 abbrev μ-loop : tie.MeasureT-loop
-μ-loop m run₀ lengths₀ behind₀ at₀ left₀ done₀ run lengths behind at left done = left
+μ-loop m count run₀ lengths₀ behind₀ at₀ left₀ done₀ run lengths behind at left done = left
 
 loop-holds : tie.Need-loop-holds Inv-loop μ-loop
-loop-holds c = let a = c .before .before .before .args in copy-all _ _ (joined-length (a .m .now) (a .names .start) (a .names .count))
+loop-holds c = let a = c .before .before .before .args in copy-all _ _ (joined-length (a .m .now) firstName (a .count))
 
 -- the name that the loop has met
 here : (c : tie.After-known-told Inv-loop μ-loop) →

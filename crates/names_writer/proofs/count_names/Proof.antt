@@ -10,10 +10,10 @@ use Rattle.names_writer.proofs.count_names.Statement.{statement}
 use Rattle.names_writer.proofs.count_names.Tie as tie
 
 abbrev Inv-loop : tie.InvT-loop
-Inv-loop m room most at₀ left₀ count₀ total₀ at left count total = CountLeft (namesOn m at₀ left₀) (namesOn m at left) room most count total
+Inv-loop m count room most at₀ left₀ done₀ total₀ at left done total = CountLeft (namesOn m at₀ left₀) (namesOn m at left) room most done total
 
 abbrev μ-loop : tie.MeasureT-loop
-μ-loop m room most at₀ left₀ count₀ total₀ at left count total = left
+μ-loop m count room most at₀ left₀ done₀ total₀ at left done total = left
 
 -- the name that the loop has met
 here : (c : tie.After-known-told Inv-loop μ-loop) →
@@ -30,13 +30,15 @@ returns c =
 
 returns-2 : tie.Need-returns-2 Inv-loop μ-loop
 returns-2 c =
-    let loop = c .before .before .before .before .before in
-    names-full (loop .before .loop .inv) (names-next (loop .before .loop .left) (here (c .before)) (loop .loop-test .taken)) (omega arith)
+    let told = c .before .before in
+    let loop = told .before .before .before .before in
+    c .no-room .ensures ∙ names-full (loop .before .loop .inv) (names-next (loop .before .loop .left) (here told) (loop .loop-test .taken)) (omega arith)
 
 returns-3 : tie.Need-returns-3 Inv-loop μ-loop
 returns-3 c =
-    let loop = c .before .before .before .before .before .before in
-    bytes-full (loop .before .loop .inv) (names-next (loop .before .loop .left) (here (c .before .before)) (loop .loop-test .taken)) (omega arith)
+    let told = c .before .before .before in
+    let loop = told .before .before .before .before in
+    c .no-room2 .ensures ∙ bytes-full (loop .before .loop .inv) (names-next (loop .before .loop .left) (here told) (loop .loop-test .taken)) (omega arith)
 
 add-at : tie.Need-add-at Inv-loop μ-loop
 add-at c = omega (arith, here (c .before .before) .fits)
@@ -61,8 +63,10 @@ count-names-spec =
     (λ c. search needs)
     returns
     (λ c. search needs)
+    (λ c κs. search needs)
     returns-2
     (λ c. c .before .before .before .before .before .before .loop .inv .bytes-fit)
+    (λ c κs. search needs)
     returns-3
     add-at
     (λ c. search needs)

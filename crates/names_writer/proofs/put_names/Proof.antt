@@ -14,7 +14,7 @@ abbrev μ-loop : tie.MeasureT-loop
 μ-loop out₀ names lengths next₀ at₀ i₀ out next at i = length lengths - i
 
 loop-holds : tie.Need-loop-holds Inv-loop μ-loop
-loop-holds c = puts-all _ _ _ _ (c .before .before .before .pre)
+loop-holds c = puts-all _ _ _ _ (c .before .before .before .pre .0) (c .before .before .before .pre .1)
 
 cast-len : tie.Need-cast-len Inv-loop μ-loop
 cast-len c = omega (arith, c .shared-slice-known3 .given (c .before .before .loop .i))

@@ -9,8 +9,8 @@ use mir.Syntax.{w32}
 use mir.ValLaws.{toZ-ofZ}
 use borrow.Author.Needs.{needs}
 use borrow.Author.Tests.{eqb-true}
-use Rattle.layout.specs.Writing.{sum}
-use Rattle.names_writer.proofs.Readdirs.{sign-refused, lengths-refused, lengths-right}
+use Rattle.layout.specs.Writing.{sum, writeNames}
+use Rattle.names_writer.proofs.Readdirs.{sign-refused, sum-refused, checks-right}
 use Rattle.names_writer.proofs.write_readdir.Statement.{statement}
 use Rattle.names_writer.proofs.write_readdir.Tie as tie
 
@@ -18,6 +18,7 @@ not-negative : (c : tie.Else1) → ltZ (c .before .before .before .before .args 
 not-negative c = rw (toZ-ofZ w32 (c .before .before .before .before .args .result) (search needs)) at (c .if1 .left)
 
 returns : tie.Need-returns
+unfolding writeNames
 returns c =
     let s = c .before .before .before .before in
     sign-refused _ _ _ _ _ (rw (toZ-ofZ w32 (s .args .result) (search needs)) at (c .if1 .taken))
@@ -29,14 +30,16 @@ sums : tie.Need-write-summed-requires
 sums c κs = eqb-true _ _ (summed (c .before))
 
 returns-2 : tie.Need-returns-2
+unfolding writeNames
 returns-2 c =
     let call = c .before .before in
     let then = call .before .before in
     let s = then .before .before .before .before .before .before in
-    lengths-right _ _ _ _ _ (not-negative (then .before .before)) (summed then) (rw (← (toZ-ofZ w32 (s .args .result) (search needs))) (call .write-summed .ensures))
+    checks-right _ _ _ _ (not-negative (then .before .before)) (summed then) (rw (← (toZ-ofZ w32 (s .args .result) (search needs))) (call .write-summed .ensures))
 
 returns-3 : tie.Need-returns-3
-returns-3 c = lengths-refused _ _ _ _ _ (not-negative (c .before .before)) (sym (c .before .sums-to .ensures) ∙ c .if2 .left)
+unfolding writeNames
+returns-3 c = sum-refused _ _ _ _ (not-negative (c .before .before)) (sym (c .before .sums-to .ensures) ∙ c .if2 .left)
 
 pub write-readdir-spec : {M : Type 1} → statement M
 write-readdir-spec = tie.close (tie.spec returns (λ c κs. search needs) sums (λ c. search needs) returns-2 returns-3)

@@ -1,9 +1,13 @@
 -- `names_writer::write_summed` meets its contract. Assumes nothing.
+use Prim.Native.Nat.{_+_, _*_}
+use native.Mathlib.Omega.{arith}
+use lib.ListN.{length}
 use mir.Syntax.{w32}
 use mir.ValLaws.{toZ-ofZ}
 use borrow.Author.Needs.{needs}
-use Rattle.store.specs.Stored.{more}
-use Rattle.store.proofs.Storing.{puts-then}
+use Rattle.store.specs.Stored.{none, more}
+use Rattle.store.proofs.Storing.{puts-from}
+use Rattle.writer.proofs.Writers.{admitted-within}
 use Rattle.names_writer.proofs.Readdirs.{names-wrote}
 use Rattle.names_writer.proofs.write_summed.Statement.{statement}
 use Rattle.names_writer.proofs.write_summed.Tie as tie
@@ -18,10 +22,19 @@ returns c =
     let start = admit .before .before .before .before .before in
     let a = start .args in
     names-wrote (a .id) (a .result) (a .lengths .now) (a .names .now) (start .pre) (admit .before .are-texts .ensures) (admit .admit .ensures)
-    (puts-then (header .put-header .ensures)
+    (more (header .put-header .ensures)
     (more (rw (toZ-ofZ w32 (a .result) (search needs)) at (result .put-i32 .ensures))
     (more (count .put-u32 .ensures) (names .put-names .ensures))))
     (c .finish .ensures)
+
+-- the names are no longer than the message that was admitted
+names-requires : tie.Need-put-names-requires
+names-requires c κs =
+    let start = c .before .before .before .before .before .before .before .before .before .before .before .before .before .before .before .before .before .before in
+    let a = start .args in
+    let stored = more (c .before .before .before .before .before .before .before .before .before .before .before .put-header .ensures) (more (c .before .before .before .before .before .before .before .put-i32 .ensures) (more (c .before .before .before .put-u32 .ensures) none)) in
+    let checked = admitted-within _ (length (a .names .now) + 4 * length (a .lengths .now) + 13) _ (c .before .before .before .before .before .before .before .before .before .before .before .before .before .admit .ensures) in
+    (start .pre, λ z. let size = checked (puts-from stored z) in omega (arith, size))
 
 pub write-summed-spec : {M : Type 1} → statement M
 write-summed-spec =
@@ -34,7 +47,7 @@ write-summed-spec =
     (λ c κs. search needs)
     (λ c. search needs)
     (λ c κs. search needs)
-    (λ c κs. search needs)
+    names-requires
     (λ c κs. search needs)
     (λ c. search needs)
     returns)

@@ -1,19 +1,15 @@
--- `number::store_u8` meets its contract: a byte is its own low byte. Assumes nothing.
-use mathlib.Core.Path.{_≡_}
-use mathlib.Core.List.{[]}
-use Prim.Native.Nat.{_/_, _%_, _^_}
-use borrow.Author.Needs.{needs}
+-- `number::store_u8` meets its contract. Assumes nothing.
 use native.Mathlib.Omega.{arith}
-use Rattle.number.specs.BigEndian.{bytesOf}
-use Rattle.number.proofs.Straight.{stored}
+use borrow.Author.Needs.{needs}
+use Rattle.number.proofs.BigEndian.{stores-none, stores-all}
 use Rattle.number.proofs.store_u8.Statement.{statement}
 use Rattle.number.proofs.store_u8.Tie as tie
 
 returns : tie.Need-returns
-unfolding bytesOf
-returns c =
-    let low : c .args .x / 256 ^ 0 % 256 ≡ c .args .x = omega (arith, c .fits .x .fits) in
-    rw low (stored (c .args .x) [] (c .args .out .now) (c .args .at) (c .pre))
+returns c = let a = c .before .before .args in stores-none 1 (a .out .now) (a .at) (a .x) (omega arith)
+
+returns-2 : tie.Need-returns-2
+returns-2 c = let a = c .before .before .before .before .before .before .args in stores-all 1 (a .out .now) (a .at) (a .x) (omega arith) (c .before .before .set-u8 .ensures)
 
 pub store-u8-spec : {M : Type 1} → statement M
-store-u8-spec = tie.close (tie.spec (λ c. search needs) (λ c. search needs) returns)
+store-u8-spec = tie.close (tie.spec returns (λ c κs. omega arith) (λ c. search needs) returns-2)

@@ -10,7 +10,7 @@ use Rattle.reply_reader.proofs.read_readdir.Tie as tie
 
 returns : tie.Need-returns
 unfolding plan ofReply
-returns c = answered (c .finish .ensures) refl refl (more (c .before .before .names-at .ensures) none)
+returns c = answered (c .finish .ensures) refl refl (more (rw (c .before .before .before .pre .1) at (c .before .names-at .ensures)) none)
 
 pub read-readdir-spec : {M : Type 1} → statement M
 read-readdir-spec = tie.close (tie.spec (λ c κs. search needs) (λ c κs. search needs) returns)

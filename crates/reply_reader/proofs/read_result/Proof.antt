@@ -1,6 +1,7 @@
 -- `reply_reader::read_result` meets its contract: the result is refused, or ends the reply, or leads on. Assumes nothing.
 use mathlib.Core.Path.{_≡_, refl, sym, ap, _∙_}
 use mathlib.Core.Bool.{true, false}
+use native.Mathlib.Omega.{arith}
 use borrow.Author.Needs.{needs}
 use lib.IntN.{ℤ, pos, natAbs}
 use lib.Signed.{ltZ}
@@ -8,8 +9,12 @@ use mir.Syntax.{w32}
 use mir.Val.{SFits}
 use mir.ValLaws.{toZ-ofZ}
 use Rattle.number.proofs.TwosComplement.{kept-casts}
+use Rattle.layout.specs.Kinds.{i32}
+use Rattle.layout.specs.Values.{Part, Value}
+use Rattle.layout.specs.Reading.{valueOf}
 use Rattle.layout.proofs.ReplyTypes.{Led, led-type}
 use Rattle.reply_reader.specs.Answers.{answerAt, successAt}
+use Rattle.field.proofs.Cursors.{number-behind}
 use Rattle.reply_reader.proofs.Answered.{zero-or-more, small-result, leads-on, result-refused, result-failure}
 use Rattle.reply_reader.proofs.read_result.Statement.{statement}
 use Rattle.reply_reader.proofs.read_result.Tie as tie
@@ -53,7 +58,8 @@ read-success-requires : tie.Need-read-success-requires
 read-success-requires c κs =
     let s = c .before .before .before .before in
     let b = s .before .before in
-    (b .pre .0, b .pre .1, rw (toZ-ofZ w32 (result s) (fits s)) (small-result (result s) (fits s) (not-below c)))
+    let place = number-behind {A = Value Part} (valueOf i32) 4 (s .i32-at .ensures) (c .before .if1 .left) in
+    (b .pre .0, b .pre .1, rw (toZ-ofZ w32 (result s) (fits s)) (small-result (result s) (fits s) (not-below c)), omega (arith, place, b .pre .2))
 
 returns-3 : tie.Need-returns-3
 returns-3 c =

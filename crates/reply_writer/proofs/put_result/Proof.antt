@@ -3,7 +3,6 @@ use mir.Syntax.{w32}
 use mir.ValLaws.{toZ-ofZ}
 use borrow.Author.Needs.{needs}
 use Rattle.store.specs.Stored.{none, more}
-use Rattle.store.proofs.Storing.{puts-then}
 use Rattle.reply_writer.proofs.put_result.Statement.{statement}
 use Rattle.reply_writer.proofs.put_result.Tie as tie
 
@@ -11,7 +10,7 @@ returns : tie.Need-returns
 returns c =
     let x = c .before .before .before .before .before .before .before .before .before .args .result in
     rw (← (toZ-ofZ w32 x (search needs)))
-    (puts-then (c .before .before .before .before .before .before .put-header .ensures) (more (c .before .before .put-i32 .ensures) none))
+    (more (c .before .before .before .before .before .before .put-header .ensures) (more (c .before .before .put-i32 .ensures) none))
 
 pub put-result-spec : {M : Type 1} → statement M
 put-result-spec = tie.close (tie.spec (λ c κs. search needs) (λ c κs. search needs) (λ c. search needs) returns)

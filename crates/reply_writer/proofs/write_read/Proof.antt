@@ -14,7 +14,7 @@ unfolding plan ofReply
 returns c =
     let x = c .before .before .before .before .before .before .before .before .before .before .before .before .before .args .result in
     rw (← (toZ-ofZ w32 x (search needs)))
-    (run-reply (record { is = rw (← (c .before .before .before .before .before .before .before .before .before .admit .ensures)) (c .before .before .before .before .before .before .before .put-result .ensures) }) (c .finish .ensures) refl refl refl (c .before .before .before .before .before .before .before .before .before .before .result-counts .ensures) (c .before .before .before .put-run .ensures))
+    (run-reply (c .before .before .before .before .before .before .before .before .before .before .before .before .before .args .«data» .now) (record { is = rw (← (c .before .before .before .before .before .before .before .before .before .admit .ensures)) (c .before .before .before .before .before .before .before .put-result .ensures) }) (c .finish .ensures) refl refl refl (c .before .before .before .before .before .before .before .before .before .before .result-counts .ensures) (c .before .before .before .put-run .ensures))
 
 pub write-read-spec : {M : Type 1} → statement M
 write-read-spec = tie.close (tie.spec (λ c κs. search needs) (λ c κs. search needs) (λ c κs. search needs) (λ c κs. search needs) (λ c κs. search needs) (λ c. search needs) returns)

@@ -14,7 +14,7 @@ unfolding plan ofReply
 returns c =
     let x = c .before .before .before .before .before .before .before .before .before .before .before .before .before .args .result in
     rw (← (toZ-ofZ w32 x (search needs)))
-    (run-reply (record { is = rw (← (c .before .before .before .before .before .before .before .before .before .admit .ensures)) (c .before .before .before .before .before .before .before .put-result .ensures) }) (c .finish .ensures) refl refl (c .before .before .before .before .before .before .before .before .before .before .is-text .ensures) refl (c .before .before .before .put-run .ensures))
+    (run-reply (c .before .before .before .before .before .before .before .before .before .before .before .before .before .args .resolved .now) (record { is = rw (← (c .before .before .before .before .before .before .before .before .before .admit .ensures)) (c .before .before .before .before .before .before .before .put-result .ensures) }) (c .finish .ensures) refl refl (c .before .before .before .before .before .before .before .before .before .before .is-text .ensures) refl (c .before .before .before .put-run .ensures))
 
 pub write-readlink-spec : {M : Type 1} → statement M
 write-readlink-spec = tie.close (tie.spec (λ c κs. search needs) (λ c κs. search needs) (λ c κs. search needs) (λ c κs. search needs) (λ c κs. search needs) (λ c. search needs) returns)

@@ -6,7 +6,7 @@ use borrow.Author.Needs.{needs}
 use Rattle.number.specs.BigEndian.{bytesOf}
 use Rattle.method.specs.Methods.{ofReply}
 use Rattle.layout.specs.Table.{plan}
-use Rattle.reply_writer.proofs.Replied.{numbers-reply}
+use Rattle.reply_writer.proofs.Replied.{group-reply}
 use Rattle.reply_writer.proofs.write_statfs.Statement.{statement}
 use Rattle.reply_writer.proofs.write_statfs.Tie as tie
 
@@ -15,7 +15,7 @@ unfolding plan ofReply bytesOf
 returns c =
     let x = c .before .before .before .before .before .before .before .before .before .before .args .result in
     rw (← (toZ-ofZ w32 x (search needs)))
-    (numbers-reply _ (c .before .before .before .before .before .before .before .start .ensures) (c .finish .ensures) refl refl refl (c .before .before .before .put-statistics .ensures))
+    (group-reply _ (c .before .before .before .before .before .before .before .start .ensures) (c .finish .ensures) refl refl refl (c .before .before .before .put-statistics .ensures))
 
 pub write-statfs-spec : {M : Type 1} → statement M
 write-statfs-spec = tie.close (tie.spec (λ c κs. search needs) (λ c κs. search needs) (λ c κs. search needs) (λ c. search needs) returns)

@@ -2,7 +2,7 @@
 use mir.Syntax.{w8, w32}
 use mir.ValLaws.{toZ-ofZ}
 use borrow.Author.Needs.{needs}
-use Rattle.lines.specs.Lines.{none}
+use Rattle.lines.proofs.Adding.{none}
 use Rattle.request_lines.proofs.put_fields.Statement.{statement}
 use Rattle.request_lines.proofs.put_fields.Tie as tie
 

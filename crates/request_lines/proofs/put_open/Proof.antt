@@ -2,7 +2,7 @@
 use mir.Syntax.{w32}
 use mir.ValLaws.{toZ-ofZ}
 use borrow.Author.Needs.{needs}
-use Rattle.lines.specs.Lines.{more, none}
+use Rattle.lines.proofs.Adding.{more, none}
 use Rattle.request_lines.proofs.put_open.Statement.{statement}
 use Rattle.request_lines.proofs.put_open.Tie as tie
 

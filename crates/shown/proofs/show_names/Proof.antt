@@ -1,15 +1,14 @@
--- `shown::show_names` is safe and ends. The names that were shown and the turns that are left are all names, and the measure is the turns. Assumes nothing.
-use Prim.Native.Nat.{_+_}
-use mathlib.Core.Path.{_≡_}
+-- `shown::show_names` is safe and ends. The measure is how many names are left. Assumes nothing.
+use Prim.Native.Nat.{_-_, _≤_}
 use borrow.Author.Needs.{needs}
 use Rattle.shown.proofs.show_names.Statement.{statement}
 use Rattle.shown.proofs.show_names.Tie as tie
 
 abbrev Inv-loop : tie.InvT-loop
-Inv-loop m position₀ turns₀ number₀ position turns number = number + turns ≡ turns₀
+Inv-loop m count number₀ number = number ≤ count
 
 abbrev μ-loop : tie.MeasureT-loop
-μ-loop m position₀ turns₀ number₀ position turns number = turns
+μ-loop m count number₀ number = count - number
 
 pub show-names-spec : {M : Type 1} → statement M
 show-names-spec =
@@ -17,4 +16,4 @@ show-names-spec =
     (tie.spec
     Inv-loop μ-loop
     (λ c. search needs) (λ c κs. search needs) (λ c. search needs) (λ c. search needs) (λ c. search needs)
-    (λ c. search needs) (λ c. search needs))
+    (λ c κs. search needs) (λ c. search needs))

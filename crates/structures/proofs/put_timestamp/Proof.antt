@@ -1,11 +1,22 @@
--- `structures::put_timestamp` meets its contract. Assumes nothing.
+-- `structures::put_timestamp` meets its contract: the room of all members is tested before the first is stored. Assumes nothing.
+use mathlib.Core.Path.{refl, _∙_}
 use borrow.Author.Needs.{needs}
-use Rattle.store.specs.Stored.{done, field}
+use Rattle.number.specs.BigEndian.{bytesOf}
+use Rattle.store.specs.Stored.{none, more}
+use Rattle.store.proofs.Storing.{whole-put}
 use Rattle.structures.proofs.put_timestamp.Statement.{statement}
 use Rattle.structures.proofs.put_timestamp.Tie as tie
 
+same-length : tie.Need-same-length
+same-length c = c .before .before .put-u32 .kept .0 ∙ c .before .before .before .before .before .before .put-u64 .kept .0
+
 returns : tie.Need-returns
-returns c = search (field, done)
+unfolding bytesOf
+returns c =
+    whole-put _ refl refl (c .before .before .before .before .before .before .before .before .room .ensures)
+    (more (c .before .before .before .before .before .before .put-u64 .ensures)
+    (more (c .before .before .put-u32 .ensures)
+    none))
 
 pub put-timestamp-spec : {M : Type 1} → statement M
-put-timestamp-spec = tie.close (tie.spec (λ c κs. search needs) (λ c κs. search needs) (λ c. search needs) returns)
+put-timestamp-spec = tie.close (tie.spec (λ c κs. search needs) (λ c κs. search needs) (λ c κs. search needs) same-length returns)

@@ -30,7 +30,7 @@ use denote.Triple.Table.{entered, cited}
 use denote.Triple.Walked.{says, Stays, stay-none, walkOf, goes-none, Walks, ends-at, walked, walk-meets}
 use denote.Exit.{yes}
 use denote.Triple.Clauses.{ensured, lasts}
-use Rattle.field.specs.Cursors.{shown}
+use Rattle.field.specs.Cursors.{Shows}
 use Rattle.names.specs.Positions.{nameOf}
 use Rattle.names.proofs.Position.Laws as P′
 use Rattle.names.proofs.next_name as next
@@ -64,7 +64,7 @@ module _ {M : Type 1} (𝓤 : URA M) (H : Heap 𝓤) (A : Atoms 𝓤) (W : Given
   Slice = ShrSlice (named 0) κ u8
 
   abbrev Found : RefT (List ℕ) → Type 0
-  Found s = now s ≡ shown (now (d .reply)) (nameOf (stepOn d))
+  Found s = Shows (d .reply) (nameOf (stepOn d)) s
 
   abbrev Post : Val → SProp 𝓤
   Post = walkOf 𝓤 H A next-name.ended stayed (next-name.clauses 𝓤 H A mem run) .post (((κ, tt), (q, tt), tt, (d, tt), (mach ∷ [], tt)), tt)

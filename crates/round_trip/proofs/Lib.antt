@@ -1,0 +1,4 @@
+pub mod Fitting
+pub mod Replies
+pub mod Requests
+pub mod Trips
