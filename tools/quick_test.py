@@ -184,6 +184,45 @@ class Promises(InTree):
         self.assertEqual(self.faults(quick.promises), ["a::f has no `ensures`"])
 
 
+class Crates(InTree):
+    def setUp(self):
+        super().setUp()
+        self.enter(mock.patch.object(quick, "REACHED", {"c": {"a"}}))
+        self.lines = ["# lowest first", "a:", "b: a", "c: a b io"]
+        self.sources = {"a/src/lib.rt": "pub fn f() {}\n", "b/proofs/P.antt": "use Rattle.a.specs.S\nuse Rattle.b.proofs.Q\n",
+                        "c/src/lib.rt": "use b::F;\n// a::f\nfn g() {\n    x::y(io::z())\n}\n"}
+
+    def finds(self, *faults):
+        self.write("crates.txt", "\n".join(self.lines) + "\n")
+        for name, text in self.sources.items():
+            self.write(f"crates/{name}", text)
+        self.assertEqual(quick.crates(self.root)[0], [f"crates.txt{fault}" for fault in faults])
+
+    def test_good(self):
+        self.finds()
+
+    def test_not_listed(self):
+        self.lines[2] = "b:"
+        self.finds(":3: b names a and does not list it")
+
+    def test_not_named(self):
+        self.sources["b/proofs/P.antt"] = "-- Rattle.a\n"
+        self.finds(":3: b lists a and does not name it")
+
+    def test_exception_not_needed(self):
+        self.sources["c/src/lib.rt"] += "ghost use Rattle.a.specs.S;\n"
+        self.finds(":4: c: the exception a is not needed")
+        self.sources["c/src/lib.rt"] = "use b::F;\nuse io::z;\n"
+        self.lines[3] = "c: b io"
+        self.finds(":4: c: the exception a is not needed")
+        del self.lines[3]
+        self.finds(": no line for c")
+
+    def test_order(self):
+        self.lines[1:3] = reversed(self.lines[1:3])
+        self.finds(":2: b stands above a, which it lists")
+
+
 class Quotes(InTree):
     def finds(self, block, *faults):
         self.write("crates/a/src/lib.rt", "one\n    two\n\nthree\nfour\n")
@@ -308,6 +347,9 @@ class Whole(InTree):
         self.write("tools/quick", "")
         shutil.copy(SCRIPT, self.root / "tools/quick")
         self.write("README.md", "".join(f"`{word}`\n" for word in quick.FROM_OUTSIDE))
+        below = {name for names in quick.REACHED.values() for name in names}
+        lines = [f"{name}:" for name in below] + [f"{name}: {' '.join(names)}" for name, names in quick.REACHED.items()]
+        self.write("crates.txt", "\n".join(lines) + "\n")
         for name in "rt", "cargo":
             self.program(name, "exit 0")
 

@@ -2,14 +2,14 @@
 
 use crate::methods::{Field, Kind};
 use crate::refusal::{
-    refuse, Refusal, LONGEST, MALFORMED_TEXT, OVERSIZE, TRUNCATED, TRUNCATED_HEADER,
+    refuse, Refusal, HEADER_SIZE, LONGEST, MALFORMED_TEXT, OVERSIZE, TRUNCATED, TRUNCATED_HEADER,
 };
 use crate::text::well_formed;
 use crate::value::{Part, Value};
 
 /// Refuses a message that is too short or too long to be looked at.
 pub fn check_whole(message: &[u8]) -> Result<(), Refusal> {
-    if message.len() < 5 {
+    if message.len() < HEADER_SIZE {
         return refuse(TRUNCATED_HEADER, 0);
     }
     if message.len() > LONGEST {

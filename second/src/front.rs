@@ -1,6 +1,7 @@
 //! The provider's front: answers the requests that need no file system.
 
-use crate::refusal::{Refusal, OVERSIZE, TRUNCATED_HEADER};
+use crate::methods::REPLY_OFFSET;
+use crate::refusal::{Refusal, OVERSIZE, TRUNCATED_HEADER, TYPE_PLACE};
 use crate::request::{read_request, Request};
 use crate::write_reply::{write_failure, write_unknown_response};
 
@@ -27,7 +28,9 @@ pub fn front(request: &[u8], buffer: &mut [u8]) -> Front {
         Request::Refused(refusal) if refusal.number == OVERSIZE => {
             write_unknown_response(buffer, id_of(request))
         }
-        Request::Refused(_) => write_failure(buffer, id_of(request), request[4] + 0x80, INVALID),
+        Request::Refused(_) => {
+            write_failure(buffer, id_of(request), request[TYPE_PLACE] + REPLY_OFFSET, INVALID)
+        }
     };
     match stored {
         Ok(length) => Front::Stored(length),

@@ -53,8 +53,10 @@ impl Method {
     }
 }
 
+pub const ACCESS: u8 = 0x01;
 pub const READ: u8 = 0x10;
 pub const READDIR: u8 = 0x13;
+pub const UTIMENS: u8 = 0x16;
 pub const GETCREDS: u8 = 0x17;
 pub const UNKNOWN_RESPONSE: u8 = 0x80;
 

@@ -19,6 +19,15 @@ pub const UNSOUND_TABLE: u8 = 20;
 /// A message has at most this many bytes, read or written.
 pub const LONGEST: usize = 65_536;
 
+/// The bytes of the header: id and type.
+pub const HEADER_SIZE: usize = 5;
+
+/// Where the type of a message stands.
+pub const TYPE_PLACE: usize = 4;
+
+/// Where the result of a reply stands.
+pub const RESULT_PLACE: usize = HEADER_SIZE;
+
 #[derive(Clone, Copy, Debug, PartialEq, Eq)]
 pub struct Refusal {
     pub number: u8,

@@ -2,7 +2,9 @@
 
 use crate::cursor::{check_whole, Cursor};
 use crate::methods::{method_of_reply, Method, GETCREDS, READ, REPLY_OFFSET, UNKNOWN_RESPONSE};
-use crate::refusal::{refuse, Refusal, DATA_LENGTH_MISMATCH, UNEXPECTED_TYPE};
+use crate::refusal::{
+    refuse, Refusal, DATA_LENGTH_MISMATCH, RESULT_PLACE, TYPE_PLACE, UNEXPECTED_TYPE,
+};
 use crate::value::{Part, Value};
 
 /// `known` is the length of the known part, `kind` the reply's type.
@@ -41,7 +43,7 @@ fn read(message: &[u8]) -> Result<Reply<'_>, Refusal> {
         return Ok(Reply::UnknownResponse { id, known: cursor.at });
     }
     let Some(method) = method_of_reply(kind) else {
-        return refuse(UNEXPECTED_TYPE, 4);
+        return refuse(UNEXPECTED_TYPE, TYPE_PLACE);
     };
     if method.number == GETCREDS {
         let creds = cursor.text()?;
@@ -64,7 +66,7 @@ fn read_result<'a>(
     }
     let values = cursor.fields(method.reply)?;
     if data_length_differs(method, result, &values) {
-        return refuse(DATA_LENGTH_MISMATCH, 5);
+        return refuse(DATA_LENGTH_MISMATCH, RESULT_PLACE);
     }
     let known = cursor.at;
     Ok(Reply::Success { id, method, result, values, known })

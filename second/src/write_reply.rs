@@ -1,6 +1,6 @@
 //! The reply writers.
 
-use crate::methods::{Method, GETCREDS, READDIR, UNKNOWN_RESPONSE};
+use crate::methods::{Method, ACCESS, GETCREDS, READDIR, REPLY_OFFSET, UNKNOWN_RESPONSE, UTIMENS};
 use crate::refusal::{
     refuse, Refusal, DATA_LENGTH_MISMATCH, LENGTHS_MISMATCH, RESULT_SIGN, UNEXPECTED_TYPE,
 };
@@ -44,7 +44,7 @@ pub fn write_readdir(
     for name in &names {
         check_text(name)?;
     }
-    let mut message = header(id, READDIR + 0x80);
+    let mut message = header(id, READDIR + REPLY_OFFSET);
     push_signed(&mut message, 4, result);
     push(&mut message, 4, names.len() as u64);
     for name in &names {
@@ -55,7 +55,7 @@ pub fn write_readdir(
 
 /// Writes a failure of any method but getcreds.
 pub fn write_failure(buffer: &mut [u8], id: u32, kind: u8, code: i32) -> Result<usize, Refusal> {
-    if !(0x81..=0x96).contains(&kind) {
+    if !(ACCESS + REPLY_OFFSET..=UTIMENS + REPLY_OFFSET).contains(&kind) {
         return refuse(UNEXPECTED_TYPE, 0);
     }
     if code >= 0 {
@@ -68,7 +68,7 @@ pub fn write_failure(buffer: &mut [u8], id: u32, kind: u8, code: i32) -> Result<
 
 pub fn write_getcreds(buffer: &mut [u8], id: u32, creds: &[u8]) -> Result<usize, Refusal> {
     check_text(creds)?;
-    let mut message = header(id, GETCREDS + 0x80);
+    let mut message = header(id, GETCREDS + REPLY_OFFSET);
     push_run(&mut message, creds);
     store(buffer, &message)
 }

@@ -11,13 +11,13 @@ use Rattle.layout.specs.Reading.{Shape, Answer, accepted, read}
 use Rattle.layout.specs.Pieces.{Agree}
 use Rattle.layout.specs.Parts.{nothing}
 use Rattle.layout.specs.Names.{namesOf, opened, steps}
-use Rattle.layout.specs.Front.{Fronted, front}
+use Rattle.layout.specs.Front.{FrontOutcome, front}
 use Rattle.layout.specs.Demand3.{Kept}
 use Rattle.layout.proofs.Iterating.{opened-steps}
 use Rattle.layout.proofs.Demand3Holds.{demand3}
-use Rattle.field.specs.Cursors.{shown}
-use Rattle.field.specs.Values.{shownIn}
-use Rattle.field.proofs.ShownInside.{accepted-shown}
+use Rattle.wire.specs.Runs.{shown}
+use Rattle.wire.specs.Values.{shownIn}
+use Rattle.wire.proofs.ShownInside.{accepted-shown}
 use Rattle.names.specs.Positions.{nameOf, nthName}
 use Rattle.names.proofs.Skipping.{nth-name, nth-inside}
 use Rattle.front.specs.Acts.{Fronts}
@@ -115,8 +115,8 @@ module _ {m n : List ℕ} {c : ℕ} {out other out′ other′ : List ℕ} {r : 
                 name-shown
                 ∙ bytes-same (shown m (nthName c m)) (shown n (nthName c n))
                 (nth-inside c m ∙ sym (nth-bytes (subst (λ (y : Side). Kept y m s i t vs k) x kept) g l c) ∙ sym (nth-inside c n));
-            acts = λ x o. q .fronts .acts ∙ ap (λ (w : Fronted). w .act) (fronted x o) ∙ sym (p .fronts .acts);
-            buffers = λ x o. q .fronts .leaves ∙ ap (λ (w : Fronted). w .buffer) (fronted x o) ∙ sym (p .fronts .leaves);
+            acts = λ x o. q .fronts .acts ∙ ap (λ (w : FrontOutcome). w .act) (fronted x o) ∙ sym (p .fronts .acts);
+            buffers = λ x o. q .fronts .leaves ∙ ap (λ (w : FrontOutcome). w .buffer) (fronted x o) ∙ sym (p .fronts .leaves);
           }
 
     module _ (j : ℕ) (l : j < k) (h : n ≡ take j m) where
@@ -136,7 +136,7 @@ module _ {m n : List ℕ} {c : ℕ} {out other out′ other′ : List ℕ} {r : 
           record {
             answers = reads-second side ∙ ap (read side) h ∙ kept .cut j l;
             names = λ x. second-name ∙ no-name x;
-            fronts = λ x. subst (λ (w : Fronted). Fronts w other′ (r .second .fronted)) (ap (λ (y : List ℕ). front y other) h ∙ kept .cut-front x j l other) (q .fronts);
+            fronts = λ x. subst (λ (w : FrontOutcome). Fronts w other′ (r .second .fronted)) (ap (λ (y : List ℕ). front y other) h ∙ kept .cut-front x j l other) (q .fronts);
           }
 
   pub agreeing : Agrees m n c out other out′ other′ r
@@ -150,5 +150,5 @@ module _ {m n : List ℕ} {c : ℕ} {out other out′ other′ : List ℕ} {r : 
         sizes = λ side e. kept side e .size;
         same = λ side e g l. same side e g l;
         cut = λ side e j l h. cut side e j l h;
-        unknown = λ x y z. let u = demand3 .unknown m out x y z in (p .fronts .acts ∙ ap (λ (w : Fronted). w .act) u, p .fronts .leaves ∙ ap (λ (w : Fronted). w .buffer) u);
+        unknown = λ x y z. let u = demand3 .unknown m out x y z in (p .fronts .acts ∙ ap (λ (w : FrontOutcome). w .act) u, p .fronts .leaves ∙ ap (λ (w : FrontOutcome). w .buffer) u);
       }

@@ -16,8 +16,8 @@ use Rattle.layout.specs.Table.{Side}
 use Rattle.layout.specs.Values.{Part, Value, number, signed, truth, run, runs, runOf}
 use Rattle.layout.specs.Reading.{Shape, Answer, accepted}
 use Rattle.layout.specs.Parts.{nothing, named, fieldsOf, partNamed}
-use Rattle.field.specs.Cursors.{shown}
-use Rattle.field.specs.Values.{shownIn}
+use Rattle.wire.specs.Runs.{shown}
+use Rattle.wire.specs.Values.{shownIn}
 use Rattle.agreement.specs.Agreeing.{eqBytes, sameParts}
 
 -- ---- the comparison

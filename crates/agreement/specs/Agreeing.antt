@@ -15,7 +15,7 @@ use Rattle.layout.specs.Pieces.{total, pieces, cutAnswer, Agree}
 use Rattle.layout.specs.Parts.{nothing, partNamed}
 use Rattle.layout.specs.Front.{idOf, typeOf, unknownReply, stored, settle, front}
 use Rattle.layout.specs.Demand3.{cutCall}
-use Rattle.field.specs.Cursors.{shown}
+use Rattle.wire.specs.Runs.{shown}
 use Rattle.request_reader.specs.Answers as requests
 use Rattle.reply_reader.specs.Answers as replies
 use Rattle.names.specs.Positions.{stepOf, nameOf, nthName}

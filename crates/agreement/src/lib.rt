@@ -5,7 +5,7 @@ ghost use mathlib.Core.Path.{_≡_};
 ghost use Rattle.names.specs.Positions.{nthName};
 ghost use Rattle.request_reader.specs.Answers.{answerOf as requestAnswer};
 ghost use Rattle.reply_reader.specs.Answers.{answerOf as replyAnswer};
-ghost use Rattle.field.specs.Cursors.{shown};
+ghost use Rattle.wire.specs.Runs.{shown};
 ghost use Rattle.layout.specs.Table.{request as request·side, reply as reply·side};
 ghost use Rattle.agreement.specs.Agreeing.{eqBytes, sameParts, requestParts, replyParts, Sees, Agrees};
 use front::Fronted;

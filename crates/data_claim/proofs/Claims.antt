@@ -12,6 +12,7 @@ use borrow.Author.Tests.{le-leb}
 use Rattle.number.specs.TwosComplement.{Signed}
 use Rattle.method.specs.declared.Method.the-variants.{Read}
 use Rattle.method.specs.Methods.{replyNumber, ofReply}
+use Rattle.layout.specs.Limits.{headerSize}
 use Rattle.layout.specs.Kinds.{bytes}
 use Rattle.layout.specs.Table.{reply, plan, led}
 use Rattle.layout.specs.Values.{Part, Value, signed, run, bytesIn, contents, AllFit, none, more, fits-num, fits-i32, fits-bytes}
@@ -20,15 +21,16 @@ use Rattle.layout.specs.Pieces.{kindsOf}
 use Rattle.layout.specs.Parts.{fieldsOf, partNamed}
 use Rattle.layout.specs.Writing.{stored, lengthOf}
 use Rattle.layout.proofs.Trace.{a-field-more, a-bytes, sized-here, no-field, BodyHere, a-success, message-traced}
-use Rattle.field.specs.declared.Run.{Run}
-use Rattle.field.specs.Cursors.{partOf, shown}
-use Rattle.writer.specs.declared.Written.{Written}
-use Rattle.writer.specs.Writers.{toldOf, Wrote}
-use Rattle.writer.proofs.RoundTrip.{finished, stored-told}
+use Rattle.wire.specs.declared.Run.{Run}
+use Rattle.wire.specs.Runs.{partOf, shown}
+use Rattle.message_writer.specs.declared.Written.{Written}
+use Rattle.message_writer.specs.Writers.{toldOf, Wrote}
+use Rattle.message_writer.proofs.Finished.{stored-told}
 use Rattle.reply_reader.specs.declared.Reply.the-variants as R
 use Rattle.reply_reader.specs.declared.ReplyAnswer.the-variants as A
 use Rattle.reply_reader.specs.Answers.{answerOf}
 use Rattle.reply_writer.specs.Replying.{replying}
+use Rattle.round_trip.proofs.Trips.{finished}
 use Rattle.data_claim.specs.declared.Carried.{Carried}
 use Rattle.data_claim.specs.Claims.{Carries, ReadReply}
 
@@ -47,7 +49,7 @@ record Counted (m : List ℕ) (vs : List (Value Part)) : Type 0 where
 counted : (m : List ℕ) {i k : ℕ} {vs : List (Value Part)} → read reply m ≡ accepted success i (replyNumber Read) vs k → Counted m vs
 counted m a = go (rw read-plan at (message-traced a .rest))
   where
-    go : {vs : List (Value Part)} {q : ℕ} → BodyHere m (led true (bytes ∷ [])) 5 success vs q → Counted m vs
+    go : {vs : List (Value Part)} {q : ℕ} → BodyHere m (led true (bytes ∷ [])) headerSize success vs q → Counted m vs
     go (a-success g f (a-field-more (a-bytes {x = x} (sized-here h r)) no-field) c) =
         record { content = x; is = ap (λ (n : ℕ). signed (pos n) ∷ run x ∷ []) c; inside = r .fits }
 
@@ -89,14 +91,14 @@ module _ (i : ℕ) (z : ℤ) (d out : List ℕ) (hi : i < 256 ^ 4) (hz : Signed 
       finished reply success i (replyNumber Read) (signed z ∷ run d ∷ []) true out hi (lit< tt) its-fields
       (subst (λ (x : Written). Wrote (replying Read i (signed z ∷ run d ∷ []) out) after x) (stored-told w e) wrote) in
       let h : Carries (take n after) r = subst (λ (k : ℕ). Carries (take k after) r) (ap lengthOf e) c in
-      let s = counted (take n after) (b .reads) in
+      let s = counted (take n after) (b .is) in
       let x = s .content in
       let says : signed (pos (x .size)) ∷ run (bytesIn (take n after) x) ∷ [] ≡ signed z ∷ run d ∷ [] = ap (contents (take n after)) (sym (s .is)) ∙ b .says in
       let size : pos (x .size) ≡ z = cc in
       let data-is : bytesIn (take n after) x ≡ d = cc in
       let long : x .size ≡ length d = sym (part-size (take n after) x (s .inside)) ∙ ap length data-is in
       let read-so : answerOf (take n after) (r .answer) ≡ accepted success i (replyNumber Read) (signed z ∷ run x ∷ []) n =
-      h .reads ∙ b .reads ∙ ap (λ (vs : List (Value Part)). accepted success i (replyNumber Read) vs n) (s .is) ∙ ap (λ (y : ℤ). accepted success i (replyNumber Read) (signed y ∷ run x ∷ []) n) size in
+      h .reads ∙ b .is ∙ ap (λ (vs : List (Value Part)). accepted success i (replyNumber Read) vs n) (s .is) ∙ ap (λ (y : ℤ). accepted success i (replyNumber Read) (signed y ∷ run x ∷ []) n) size in
       record {
         content = x;
         is = read-so;

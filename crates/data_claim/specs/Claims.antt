@@ -11,9 +11,9 @@ use Rattle.layout.specs.Values.{Part, signed, run, bytesIn}
 use Rattle.layout.specs.Reading.{success, accepted, read}
 use Rattle.layout.specs.Parts.{partNamed}
 use Rattle.layout.specs.Writing.{stored}
-use Rattle.field.specs.declared.Run.{Run}
-use Rattle.field.specs.Cursors.{shown}
-use Rattle.writer.specs.Writers.{toldOf, Wrote}
+use Rattle.wire.specs.declared.Run.{Run}
+use Rattle.wire.specs.Runs.{shown}
+use Rattle.message_writer.specs.Writers.{toldOf, Wrote}
 use Rattle.reply_writer.specs.Replying.{replying}
 use Rattle.reply_reader.specs.declared.Reply.the-variants as R
 use Rattle.reply_reader.specs.declared.ReplyAnswer.the-variants as A

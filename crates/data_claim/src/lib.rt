@@ -2,10 +2,10 @@
 // on any message, and of the writer, whose reply is read.
 ghost use lib.ListN.{take};
 ghost use Rattle.layout.specs.Writing.{lengthOf};
-ghost use Rattle.writer.specs.Writers.{toldOf};
+ghost use Rattle.message_writer.specs.Writers.{toldOf};
 ghost use Rattle.data_claim.specs.Claims.{Carries, ClaimsGiven};
+use message_writer::Written;
 use reply_reader::ReplyAnswer;
-use writer::Written;
 
 // The answer to a reply, and how many bytes of data it shows.
 pub struct Carried {

@@ -6,18 +6,18 @@ use mathlib.Core.List.{List, _++_}
 use lib.Dec.{leb}
 use lib.ListN.{length, drop}
 use lib.Seq.{drop-at}
-use Rattle.layout.specs.Limits.{bufferTooSmall}
+use Rattle.layout.specs.Refusals.{bufferTooSmall}
 use Rattle.layout.specs.Table.{Side, request}
 use Rattle.layout.specs.Values.{Value}
 use Rattle.layout.specs.Reading.{Shape, read}
 use Rattle.layout.specs.Writing.{lengthOf, encodeMessage, write}
-use Rattle.layout.specs.Front.{Call, hand-on, refuse, reply-with, called, Fronted as Outcome, stored, refused, done, settle, front}
+use Rattle.layout.specs.Front.{Call, hand-on, refuse-with, reply-with, called, stored, refused, done, settle, front}
 use Rattle.layout.proofs.Tests.{apart}
 use Rattle.layout.proofs.Written.{write-finished}
-use Rattle.writer.specs.declared.Written.{Written}
-use Rattle.writer.specs.declared.Written.the-variants as W
-use Rattle.writer.specs.Writers.{toldOf, Wrote}
-use Rattle.writer.proofs.RoundTrip.{rest-kept, refused-kept}
+use Rattle.message_writer.specs.declared.Written.{Written}
+use Rattle.message_writer.specs.declared.Written.the-variants as W
+use Rattle.message_writer.specs.Writers.{toldOf, Wrote}
+use Rattle.message_writer.proofs.Finished.{rest-kept, refused-kept}
 use Rattle.front.specs.declared.Fronted.{Fronted}
 use Rattle.front.specs.declared.Fronted.the-variants as F
 use Rattle.front.specs.Acts.{actOf, Fronts}
@@ -49,13 +49,13 @@ fronted-rest m out {after} {r} e f =
     answered true bs (F.Stored n) e =
         let size : length bs ≡ n = cc in
         ap (λ (k : ℕ). drop n (bs ++ drop k out)) size ∙ drop-at bs (drop n out) n size
-    answered true bs F.HandedOn e = let z : _≡_ {A = ℕ} 0 1 = cc in apart z
-    answered true bs (F.Refused n p) e = let z : _≡_ {A = ℕ} 0 1 = cc in apart z
+    answered true bs F.HandedOn e = let z : false ≡ true = cc in apart z
+    answered true bs (F.Refused n p) e = let z : false ≡ true = cc in apart z
     answered false bs r e = refl
 
     settled : (c : Call) (r : Fronted) → actOf r ≡ settle c out .act → drop (reported r) (settle c out .buffer) ≡ drop (reported r) out
     settled hand-on r e = refl
-    settled (refuse n) r e = refl
+    settled (refuse-with n) r e = refl
     settled (reply-with bs) r e = answered (leb (length bs) (length out)) bs r e
 
 -- the answer of a writer, told as its length

@@ -14,7 +14,7 @@ use Rattle.layout.specs.Table.{reply}
 use Rattle.layout.specs.Names as layout
 use Rattle.layout.specs.Names.{namesOf, opened, name, ended, step, steps, gather}
 use Rattle.layout.proofs.Iterating.{opened-steps}
-use Rattle.field.specs.Cursors.{shown}
+use Rattle.wire.specs.Runs.{shown}
 use Rattle.names.specs.declared.Position.{Position}
 use Rattle.names.specs.Positions.{positionOf, nameOf, behind}
 use Rattle.examples.specs.Longest.{greater, longest, longestName}

@@ -8,7 +8,7 @@ use Rattle.layout.specs.Values.{Part}
 use Rattle.layout.specs.Names.{namesOf}
 use Rattle.layout.specs.Reading.{read}
 use Rattle.layout.specs.Table.{reply}
-use Rattle.field.specs.Cursors.{shown}
+use Rattle.wire.specs.Runs.{shown}
 
 abbrev pub greater : ℕ → ℕ → ℕ
 greater a b = cond (leb b a) a b

@@ -1,13 +1,14 @@
 // What README.md shows of the use from Rattle: a provider's turn, and a loop over the names of a readdir reply.
 ghost use mathlib.Core.Path.{_≡_};
 ghost use Rattle.layout.specs.Writing.{lengthOf};
-ghost use Rattle.writer.specs.Writers.{toldOf};
+ghost use Rattle.message_writer.specs.Writers.{toldOf};
 ghost use Rattle.examples.specs.Turns.{RestKept};
 ghost use Rattle.examples.specs.Longest.{greater as greater·of, longestName};
 use front::Fronted;
+use message_writer::Written;
+use method::Method;
 use request_reader::Request;
 use request_reader::RequestAnswer;
-use writer::Written;
 
 // The one handle that this provider gives.
 const HANDLE: u64 = 1;
@@ -33,7 +34,7 @@ fn serve(message: &[u8], out: &mut [u8]) -> usize
     let answer = request_reader::read_request(message);
     match answer {
         RequestAnswer::Known { id, request, .. } => {
-            let written = reply(id, field::type_of(message), request, out);
+            let written = reply(id, field_reader::type_of(message), request, out);
             written.len()
         }
         RequestAnswer::Unknown { .. } => 0,
@@ -50,7 +51,12 @@ fn reply(id: u32, request_type: u8, request: Request, out: &mut [u8]) -> Written
         Request::Read { .. } => reply_writer::write_read(id, 5, b"hello", out),
         Request::Release { .. } => reply_writer::write_release(id, 0, out),
         Request::Getcreds => reply_writer::write_getcreds(id, b"{}", out),
-        _ => reply_writer::write_failure(id, request_type | 0x80, NOT_IMPLEMENTED, out),
+        _ => reply_writer::write_failure(
+            id,
+            request_type | Method::REPLY_OFFSET,
+            NOT_IMPLEMENTED,
+            out,
+        ),
     }
 }
 

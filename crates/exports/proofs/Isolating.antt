@@ -7,7 +7,7 @@ use lib.IntN.{ℤ}
 use Rattle.layout.specs.Table.{Side, request, reply}
 use Rattle.layout.specs.Values.{Value}
 use Rattle.layout.specs.Reading.{Shape, known, success}
-use Rattle.layout.specs.Writing.{Written, Told, stored, refused, lengthOf, write}
+use Rattle.layout.specs.Writing.{WriteOutcome, Told, stored, refused, lengthOf, write}
 use Rattle.layout.specs.Front.{Act, handed-on, stored as act-stored, refused as act-refused, front}
 use Rattle.layout.specs.Isolation.{actLength, WriterIsolated as WriterIsolated·layout}
 use Rattle.layout.proofs.Isolating as layout
@@ -25,7 +25,7 @@ act-length (act-stored n) = refl
 act-length (act-refused n p) = refl
 
 -- any writer that is isolated, as a host sees it
-pub writer-shown : {w : List ℕ → Written} → WriterIsolated·layout w → WriterIsolated w
+pub writer-shown : {w : List ℕ → WriteOutcome} → WriterIsolated·layout w → WriterIsolated w
 writer-shown i = layout.isolated-told writtenOf (λ r. r .len) told-length i
 
 -- every writer, of requests and of replies

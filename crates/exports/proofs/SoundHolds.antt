@@ -19,7 +19,7 @@ use Rattle.layout.specs.Values.{Part, part, Value, signed, runs, runsOf}
 use Rattle.layout.specs.Reading.{Outcome, got, fail, followed, numOutcome, numAt, runAt, anyBytes, bytesAt, valueOf, Shape, unknown, known, failure, success, Answer, refused, accepted, read}
 use Rattle.layout.specs.Pieces.{kindsOf}
 use Rattle.layout.specs.Names.{namesAmong, namesOf, Position, position, firstName, opened, Step, name, ended, stepped, stepBy, step, steps}
-use Rattle.layout.specs.Limits.{truncated}
+use Rattle.layout.specs.Refusals.{truncated}
 use Rattle.layout.proofs.Tests.{apart}
 use Rattle.layout.proofs.Trace.{SizedHere, sized-here, StringsHere, no-string, a-string-more, FieldHere, a-num, a-string, a-bytes, a-strings, FieldsHere, no-field, a-field-more, BodyHere, header-only, an-asked, a-plain, a-failure, a-success, message-traced}
 use Rattle.layout.proofs.Iterating.{ended-stays, opened-steps}
@@ -212,7 +212,7 @@ run-inside m n p {x} {q} e = go (leb (p + n) (length m)) refl e
     go true f g =
         let same : part p n ≡ x = cc in
         subst (λ (y : Part). Inside m (y .start) (y .size)) same (record { fits = leb-true (p + n) (length m) f })
-    go false f g = let z : _≡_ {A = ℕ} 0 1 = cc in apart z
+    go false f g = let z : false ≡ true = cc in apart z
 
 bytes-inside : (m : List ℕ) (p : ℕ) {x : Part} {q : ℕ} → bytesAt m p ≡ got x q → Inside m (x .start) (x .size)
 unfolding numAt
@@ -220,7 +220,7 @@ bytes-inside m p {x} {q} e = go (numberAt 4 m p) e
   where
     go : (f : Number) → followed (numOutcome 4 p f) (λ n r. runAt anyBytes n m r) ≡ got x q → Inside m (x .start) (x .size)
     go (whole n) g = run-inside m n (p + 4) g
-    go too-few g = let z : _≡_ {A = ℕ} 0 1 = cc in apart z
+    go too-few g = let z : false ≡ true = cc in apart z
 
 -- a name that was given lies inside the message, also from a position that was made up
 pub step-inside : (m : List ℕ) (w : Position) {x : Part} {v : Position} → step m w ≡ name x v → Inside m (x .start) (x .size)
@@ -231,8 +231,8 @@ step-inside m w {x} {v} e = go (w .left) e
     given l (got y q) f g =
         let same : y ≡ x = cc in
         subst (λ (y : Part). Inside m (y .start) (y .size)) same (bytes-inside m (w .at) f)
-    given l (fail c p) f g = let z : _≡_ {A = ℕ} 0 1 = cc in apart z
+    given l (fail c p) f g = let z : false ≡ true = cc in apart z
 
     go : (l : ℕ) → stepBy m (w .at) l ≡ name x v → Inside m (x .start) (x .size)
-    go zero g = let z : _≡_ {A = ℕ} 0 1 = cc in apart z
+    go zero g = let z : false ≡ true = cc in apart z
     go (suc l) g = given l (bytesAt m (w .at)) refl g

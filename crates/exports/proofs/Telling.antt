@@ -5,10 +5,10 @@ use mathlib.Core.List.{List}
 use Prim.Native.Nat.{ℕ}
 use lib.Dec.{eqb}
 use Rattle.layout.specs.Reading.{Shape, unknown, known, failure, success}
-use Rattle.layout.specs.Writing.{Told, stored, refused, lengthOf, Written as Outcome}
+use Rattle.layout.specs.Writing.{Told, stored, refused, lengthOf, WriteOutcome}
 use Rattle.layout.specs.Front.{Act, handed-on, stored as act-stored, refused as act-refused}
-use Rattle.writer.specs.declared.Written.{Written}
-use Rattle.writer.specs.Writers.{toldOf, Wrote}
+use Rattle.message_writer.specs.declared.Written.{Written}
+use Rattle.message_writer.specs.Writers.{toldOf, Wrote}
 use Rattle.exports.specs.declared.TushaletsWritten.{TushaletsWritten}
 use Rattle.exports.specs.declared.TushaletsFronted.{TushaletsFronted}
 use Rattle.exports.specs.Shown.{shapeNumber, writtenOf, frontedOf}
@@ -45,6 +45,6 @@ pub length-told : (t : Told) → writtenOf t .len ≡ lengthOf t
 length-told (stored n) = refl
 length-told (refused n p) = refl
 
-pub tells-host : {w : Outcome} {n : List ℕ} {r : Written} {x : TushaletsWritten} → x ≡ writtenOf (toldOf r) → Wrote w n r
+pub tells-host : {w : WriteOutcome} {n : List ℕ} {r : Written} {x : TushaletsWritten} → x ≡ writtenOf (toldOf r) → Wrote w n r
     → (x ≡ writtenOf (w .told)) × (n ≡ w .buffer)
 tells-host e h = (e ∙ ap writtenOf (h .tells), h .leaves)

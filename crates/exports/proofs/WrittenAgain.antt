@@ -15,7 +15,7 @@ use Rattle.layout.specs.Values.{Part, Value, number, signed, truth, run, runs, 
 use Rattle.layout.specs.Reading.{known, success, accepted, read}
 use Rattle.layout.specs.Pieces.{kindsOf}
 use Rattle.layout.specs.Writing.{write, sum}
-use Rattle.layout.proofs.Tests.{never}
+use Rattle.layout.proofs.Tests.{apart}
 use Rattle.layout.proofs.ReadFits.{accepted-fits}
 use Rattle.layout.proofs.Trace.{BodyHere, a-plain, a-success, message-traced}
 use Rattle.exports.specs.Given.{given, summed, requestBy, behindHeader, successBy}
@@ -43,7 +43,7 @@ no-lengths m (signed z ∷ vs) (more (fits-num f) t) h ls = no-lengths m vs t h 
 no-lengths m (truth b ∷ vs) (more (fits-num f) t) h ls = no-lengths m vs t h ls
 no-lengths m (run x ∷ vs) (more (fits-string s) t) h ls = no-lengths m vs t h ls
 no-lengths m (run x ∷ vs) (more (fits-bytes s) t) h ls = no-lengths m vs t h ls
-no-lengths m (runs xs ∷ vs) (more (fits-strings ss) t) h ls = never h
+no-lengths m (runs xs ∷ vs) (more (fits-strings ss) t) h ls = apart h
 
 pub request-again : (m out : List ℕ) {i t k : ℕ} {vs : List (Value Part)} → Bytes m → read request m ≡ accepted known i t vs k
     → (ns later : List ℕ) → ns ≡ numberCells vs ++ later → (s u : List ℕ) (others : List (List ℕ)) → s ∷ u ∷ [] ≡ runBytes m vs ++ others
@@ -91,17 +91,17 @@ nameless-summed [] s ls h = refl
 nameless-summed (num k ∷ ks) s ls h = nameless-summed ks s ls h
 nameless-summed (string ∷ ks) s ls h = nameless-summed ks s ls h
 nameless-summed (bytes ∷ ks) s ls h = nameless-summed ks s ls h
-nameless-summed (strings ∷ ks) s ls h = never h
+nameless-summed (strings ∷ ks) s ls h = apart h
 
 module _ (m : List ℕ) (s ls : List ℕ) (others : List (List ℕ)) where
   names-summed : {ks : List Kind} (us : List (Value Part)) → AllFit ks (contents m us) → ks ≡ strings ∷ [] → LengthsOf m us ls → s ∷ [] ≡ runBytes m us ++ others
       → eqb (sum ls) (length s) ≡ true
-  names-summed [] none k l r = never (cc)
-  names-summed (number n ∷ us) (more (fits-num f) t) k l r = never (cc)
-  names-summed (signed z ∷ us) (more (fits-num f) t) k l r = never (cc)
-  names-summed (truth b ∷ us) (more (fits-num f) t) k l r = never (cc)
-  names-summed (run x ∷ us) (more (fits-string w) t) k l r = never (cc)
-  names-summed (run x ∷ us) (more (fits-bytes w) t) k l r = never (cc)
+  names-summed [] none k l r = apart (cc)
+  names-summed (number n ∷ us) (more (fits-num f) t) k l r = apart (cc)
+  names-summed (signed z ∷ us) (more (fits-num f) t) k l r = apart (cc)
+  names-summed (truth b ∷ us) (more (fits-num f) t) k l r = apart (cc)
+  names-summed (run x ∷ us) (more (fits-string w) t) k l r = apart (cc)
+  names-summed (run x ∷ us) (more (fits-bytes w) t) k l r = apart (cc)
   names-summed (runs xs ∷ us) (more (fits-strings ss) t) k l r =
       let e : s ≡ joined (map (bytesIn m) xs) = cc in
       eq-eqb (sum ls) (length s) (ap sum (l .0) ∙ sum-joined (map (bytesIn m) xs) ∙ sym (ap length e))
@@ -114,7 +114,7 @@ module _ (m : List ℕ) (s ls : List ℕ) (others : List (List ℕ)) where
   summed-right (string ∷ ks) us a f l r = nameless-summed ks s ls a
   summed-right (bytes ∷ ks) us a f l r = nameless-summed ks s ls a
   summed-right (strings ∷ []) us a f l r = names-summed us f refl l r
-  summed-right (strings ∷ k ∷ ks) us a f l r = never a
+  summed-right (strings ∷ k ∷ ks) us a f l r = apart a
 
   module _ (ns later : List ℕ) where
     fields-given : {ks : List Kind} (us : List (Value Part)) → alone ks ≡ true → AllFit ks (contents m us) → LengthsOf m us ls → ns ≡ numberCells us ++ later

@@ -1,9 +1,9 @@
 // What a host in C, C++ or Rust is answered: structs of numbers, returned by value. The functions stand in the crates
 // exports_reading, exports_requests, exports_replies, exports_front, exports_listing, exports_outstanding and exports_text.
 ghost use mathlib.Core.Path.{_≡_};
-ghost use Rattle.writer.specs.Writers.{toldOf};
+ghost use Rattle.message_writer.specs.Writers.{toldOf};
 ghost use Rattle.exports.specs.Shown.{writtenOf};
-use writer::Written;
+use message_writer::Written;
 
 // The version of all that a host sees: the functions, their arguments, the cells of an answer and the words of a table. A change of any
 // raises it; a function that is added does not.

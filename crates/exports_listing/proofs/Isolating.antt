@@ -2,7 +2,7 @@
 use mathlib.Core.List.{List}
 use Prim.Native.Nat.{ℕ}
 use Rattle.layout.proofs.Isolating.{store-isolated}
-use Rattle.listing.specs.Listing.{listing, listed}
+use Rattle.request_listing.specs.Listing.{listing, listed}
 use Rattle.exports.specs.Isolation.{WriterIsolated}
 use Rattle.exports.proofs.Isolating.{writer-shown}
 

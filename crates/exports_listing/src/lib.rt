@@ -1,6 +1,6 @@
 // For a host: the listing of a request.
 ghost use mathlib.Core.Path.{_≡_};
-ghost use Rattle.listing.specs.Listing.{listed};
+ghost use Rattle.request_listing.specs.Listing.{listed};
 ghost use Rattle.exports.specs.Shown.{writtenOf};
 use exports::TushaletsWritten;
 
@@ -10,6 +10,6 @@ pub extern "C" fn tushalets_list_request(message: &[u8], out: &mut [u8]) -> Tush
     ensures { λ r. ⌜ r ≡ writtenOf (listed (now (message .entry)) (now (out .entry)) .told) ⌝ }
     ensures { λ _. ⌜ now (out .exit) ≡ listed (now (message .entry)) (now (out .entry)) .buffer ⌝ }
 {
-    let written = listing::list_request(message, out);
+    let written = request_listing::list_request(message, out);
     TushaletsWritten::of(written)
 }

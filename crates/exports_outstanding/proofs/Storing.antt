@@ -11,7 +11,7 @@ use Rattle.layout.specs.Front.{typeOf}
 use Rattle.outstanding_records.specs.declared.Record.{Record}
 use Rattle.outstanding_records.specs.declared.Record.the-variants.{Free, Held}
 use Rattle.outstanding.specs.Records.{isFree, holdsId}
-use Rattle.outstanding.specs.Calls.{Change, kept, entered, removed, Outcome, Arrival, arrive}
+use Rattle.outstanding.specs.Calls.{Change, kept, entered, removed, CallOutcome, Arrival, arrive}
 use Rattle.outstanding.proofs.Lists.{replace-set, first-map, map-length}
 use Rattle.outstanding.proofs.Views.{Arriving, stopped, passed, arriving}
 use Rattle.outstanding_decisions.specs.Decisions.{place, stored, Decided}
@@ -27,13 +27,13 @@ module _ (ws : List ℕ) where
   by (removed i) = ap (λ (n : ℕ). set ws n (wordOf Free)) (first-map recordOf (holdsId i) ws) ∙ sym (replace-set (λ w. holdsId i (recordOf w)) (wordOf Free) ws)
 
   -- once the record is stored as a word, the words are what the call leaves
-  pub stores : {A : Type 0} {a : A} {at : ℕ} {r : Record} {o : Outcome A} → Decided (records ws) a at r o → set ws at (wordOf r) ≡ afterWords (o .change) ws
+  pub stores : {A : Type 0} {a : A} {at : ℕ} {r : Record} {o : CallOutcome A} → Decided (records ws) a at r o → set ws at (wordOf r) ≡ afterWords (o .change) ws
   stores {A} {a} {at} {r} {o} d = rw (d .stands, d .stores) (by (o .change))
 
 -- the type in the message is that of the answer, where the reply is answered
 pub typed-arrival : (l : List Record) (m : List ℕ) → typed (typeOf m) (shownOf (arrive l (read reply m) .told)) ≡ shownOf (arrive l (read reply m) .told)
 typed-arrival l m = go (arriving l (read reply m)) refl
   where
-    go : {a : Answer} {o : Outcome Arrival} → Arriving l a o → read reply m ≡ a → typed (typeOf m) (shownOf (o .told)) ≡ shownOf (o .told)
+    go : {a : Answer} {o : CallOutcome Arrival} → Arriving l a o → read reply m ≡ a → typed (typeOf m) (shownOf (o .told)) ≡ shownOf (o .told)
     go (stopped n p) e = refl
     go {a} (passed q s h f g) e = ap (typed (typeOf m)) (sym e) ∙ same-type reply m ∙ e

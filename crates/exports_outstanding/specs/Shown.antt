@@ -1,9 +1,16 @@
 -- What a host is shown of a call on the table of outstanding requests, in numbers.
 use Prim.Native.Nat.{ℕ}
+use mathlib.Core.List.{List}
 use mathlib.Core.Option.{none, some}
-use Rattle.layout.specs.Reading.{Answer, refused as refused·answer}
-use Rattle.outstanding.specs.Calls.{Told, done, refused, Arrival, answered, refused-reply, Looked, seen, not-seen}
+use Rattle.layout.specs.Table.{reply}
+use Rattle.layout.specs.Reading.{Answer, refused as refused·answer, read}
+use Rattle.outstanding.specs.Calls.{CallOutcome, Told, done, refused, Arrival, answered, refused-reply, arrive, Looked, seen, not-seen}
+use Rattle.outstanding_words.specs.Words.{records}
 use Rattle.exports_outstanding.specs.declared.TushaletsLooked.{TushaletsLooked}
+
+-- what the arrival of the reply m comes to in the table of the words ws
+abbrev pub arriving : List ℕ → List ℕ → CallOutcome Arrival
+arriving ws m = arrive (records ws) (read reply m)
 
 -- 0, or the number of a refusal; its place is 0
 abbrev pub numberOf : Told → ℕ

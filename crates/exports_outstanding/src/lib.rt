@@ -3,20 +3,19 @@ ghost use mathlib.Core.Path.{_≡_};
 ghost use mathlib.Core.List.{List, map};
 ghost use Prim.Native.Nat.{ℕ};
 ghost use lib.ListN.{set};
-ghost use Rattle.layout.specs.Table.{reply as reply·side};
-ghost use Rattle.layout.specs.Reading.{read};
-ghost use Rattle.outstanding.specs.Calls.{empty as empty·in, enter as enter·in, arrive as arrive·in, look as look·at, seen as seen·of};
+ghost use Rattle.outstanding.specs.Calls.{empty as empty·in, enter as enter·in, look as look·at, seen as seen·of};
 ghost use Rattle.outstanding_decisions.specs.Decisions as decided;
 ghost use Rattle.outstanding_words.specs.Words.{wordOf, records as records·of, afterWords};
 ghost use Rattle.exports.specs.Shown.{readingOf};
 ghost use Rattle.exports_reading.specs.Typed.{typed};
-ghost use Rattle.exports_outstanding.specs.Shown.{numberOf, shownOf, lookedOf};
+ghost use Rattle.exports_outstanding.specs.Shown.{arriving, numberOf, shownOf, lookedOf};
 use exports::TushaletsReading;
 use outstanding_decisions::Arrived;
 use outstanding_decisions::Entered;
 use outstanding_decisions::Found;
 use outstanding_decisions::Looked;
 use outstanding_records::Record;
+use wire::Refusal;
 
 // A look into the table. `number` is 0 and `count` requests are outstanding; `held` is 1 and the request of the id has this type, or `held`
 // and `type_number` are 0 and the id is not outstanding. Or `number` is a refusal's, and all else is 0.
@@ -35,7 +34,7 @@ pub extern "C" fn tushalets_empty(records: &mut [u64]) -> u32
     ensures { λ _. ⌜ now (records .exit) ≡ empty·in 0 (now (records .entry)) .table ⌝ }
 {
     if records.len() != outstanding_records::SIZE {
-        return outstanding_decisions::UNSOUND_TABLE as u32;
+        return Refusal::UNSOUND_TABLE as u32;
     }
     clear(records);
     0
@@ -67,13 +66,13 @@ pub extern "C" fn tushalets_enter(records: &mut [u64], id: u32, type_number: u8)
 // Takes an arriving reply: the reading of it, and its record is free; or a refusal, and no word has changed.
 #[no_mangle]
 pub extern "C" fn tushalets_arrive(records: &mut [u64], message: &[u8]) -> TushaletsReading
-    ensures { λ r. ⌜ r ≡ readingOf (shownOf (arrive·in (records·of (now (records .entry))) (read reply·side (now (message .entry))) .told)) ⌝ }
-    ensures { λ _. ⌜ now (records .exit) ≡ afterWords (arrive·in (records·of (now (records .entry))) (read reply·side (now (message .entry))) .change) (now (records .entry)) ⌝ }
+    ensures { λ r. ⌜ r ≡ readingOf (shownOf (arriving (now (records .entry)) (now (message .entry)) .told)) ⌝ }
+    ensures { λ _. ⌜ now (records .exit) ≡ afterWords (arriving (now (records .entry)) (now (message .entry)) .change) (now (records .entry)) ⌝ }
 {
     let removal = outstanding_decisions::arrive(records, message);
     let answer = removal.answer;
     put(records, removal.at, Record::Free);
-    reading_of(answer, field::type_of(message))
+    reading_of(answer, field_reader::type_of(message))
 }
 
 // Shows how many requests are outstanding, and the one of an id.

@@ -7,22 +7,23 @@ ghost use Rattle.layout.specs.Table.{request as request·side, reply as reply·
 ghost use Rattle.layout.specs.Reading.{read, refused as refused·answer};
 ghost use Rattle.layout.specs.Names.{position, step as step·at};
 ghost use Rattle.layout.specs.Writing.{bit};
-ghost use Rattle.field.specs.Values.{attributesValues, statisticsValues};
+ghost use Rattle.wire.specs.Values.{attributesValues, statisticsValues};
 ghost use Rattle.request_reader.specs.Answers as asked;
 ghost use Rattle.reply_reader.specs.Answers as replied;
 ghost use Rattle.exports.specs.Shown.{allCells, padded, cellCount, fieldCells, accepting, readingOf, nameOf};
 ghost use Rattle.exports_reading.specs.Typed.{typed};
 use exports::TushaletsName;
 use exports::TushaletsReading;
-use field::Attributes;
-use field::Run;
-use field::Statistics;
 use names::Position;
 use names::Step;
 use reply_reader::Reply;
 use reply_reader::ReplyAnswer;
 use request_reader::Request;
 use request_reader::RequestAnswer;
+use wire::Attributes;
+use wire::FIRST_NAME;
+use wire::Run;
+use wire::Statistics;
 
 // The numbers of an answer's shapes; 0 is a refusal.
 const UNKNOWN: u32 = 1;
@@ -33,16 +34,13 @@ const FAILURE: u32 = 3;
 
 const SUCCESS: u32 = 4;
 
-// Where the first name of a readdir reply stands.
-const FIRST_NAME: u64 = 13;
-
 // A request read. No message needs a check beforehand.
 #[no_mangle]
 pub extern "C" fn tushalets_read_request(message: &[u8]) -> TushaletsReading
     ensures { λ r. ⌜ r ≡ readingOf (read request·side (now (message .entry))) ⌝ }
 {
     let answer = request_reader::read_request(message);
-    let type_number = field::type_of(message);
+    let type_number = field_reader::type_of(message);
     request_reading(answer, type_number)
 }
 
@@ -52,7 +50,7 @@ pub extern "C" fn tushalets_read_reply(message: &[u8]) -> TushaletsReading
     ensures { λ r. ⌜ r ≡ readingOf (read reply·side (now (message .entry))) ⌝ }
 {
     let answer = reply_reader::read_reply(message);
-    let type_number = field::type_of(message);
+    let type_number = field_reader::type_of(message);
     reply_reading(answer, type_number)
 }
 
@@ -62,7 +60,7 @@ pub extern "C" fn tushalets_read_reply(message: &[u8]) -> TushaletsReading
 pub extern "C" fn tushalets_next_name(message: &[u8], at: usize, left: u32) -> TushaletsName
     ensures { λ r. ⌜ r ≡ nameOf (step·at (now (message .entry)) (position at left)) ⌝ }
 {
-    let step = names::next(message, Position { at, left });
+    let step = names::step_at(message, Position { at, left });
     match step {
         Step::Name { run, next } => TushaletsName {
             found: 1,
@@ -253,7 +251,7 @@ fn success_cells(result: u64, reply: Reply) -> [u64; 17]
         Reply::Read { data } => three_cells(result, data.start as u64, data.len as u64),
         Reply::Write => three_cells(result, 0, 0),
         Reply::Mkdir => three_cells(result, 0, 0),
-        Reply::Readdir { count } => three_cells(result, FIRST_NAME, count as u64),
+        Reply::Readdir { count } => three_cells(result, FIRST_NAME as u64, count as u64),
         Reply::Rmdir => three_cells(result, 0, 0),
         Reply::Statfs { statistics } => statistics_cells(result, statistics),
         Reply::Utimens => three_cells(result, 0, 0),

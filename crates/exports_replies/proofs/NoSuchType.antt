@@ -7,11 +7,11 @@ use lib.Dec.{eqb}
 use lib.IntN.{ℤ}
 use Rattle.method.specs.Methods.{methods, replyNumber}
 use Rattle.method.proofs.Table.{NoneOf, reply-unknown}
-use Rattle.layout.specs.Limits.{unexpectedType}
+use Rattle.layout.specs.Refusals.{unexpectedType}
 use Rattle.layout.specs.Table.{reply, unknownResponse, unexpected, header, plan}
 use Rattle.layout.specs.Writing.{write}
-use Rattle.writer.specs.declared.Written.the-variants.{Refused}
-use Rattle.writer.specs.Writers.{Wrote}
+use Rattle.message_writer.specs.declared.Written.the-variants.{Refused}
+use Rattle.message_writer.specs.Writers.{Wrote}
 use Rattle.exports.specs.Given.{successBy}
 
 planned : (t : ℕ) → NoneOf (reverse (map replyNumber methods)) t → plan reply t ≡ cond (eqb t unknownResponse) header unexpected

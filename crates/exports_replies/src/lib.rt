@@ -7,13 +7,13 @@ ghost use Rattle.layout.specs.Table.{reply, unknownResponse};
 ghost use Rattle.layout.specs.Values.{signed};
 ghost use Rattle.layout.specs.Reading.{unknown, failure};
 ghost use Rattle.layout.specs.Writing.{write};
-ghost use Rattle.writer.specs.Writers.{Wrote};
-ghost use Rattle.exports.specs.Given.{successBy};
+ghost use Rattle.message_writer.specs.Writers.{Writes};
+ghost use Rattle.exports.specs.Given.{successLent};
 ghost use Rattle.exports.specs.Shown.{writtenOf};
 use exports::TushaletsWritten;
 use exports_values::*;
+use message_writer::Written;
 use method::Method;
-use writer::Written;
 
 // A success. `run` is its text or data. The names of a readdir reply are `run`, one behind the other, and `lengths`; every other
 // reply leaves `lengths` aside. A getcreds reply has no result and leaves `result` aside.
@@ -27,8 +27,8 @@ pub extern "C" fn tushalets_write_reply(
     lengths: &[u32],
     out: &mut [u8],
 ) -> TushaletsWritten
-    ensures { λ r. ⌜ r ≡ writtenOf (successBy id «type_number» result (now (numbers .entry)) (now (run .entry)) (now (lengths .entry)) (now (out .entry)) .told) ⌝ }
-    ensures { λ _. ⌜ now (out .exit) ≡ successBy id «type_number» result (now (numbers .entry)) (now (run .entry)) (now (lengths .entry)) (now (out .entry)) .buffer ⌝ }
+    ensures { λ r. ⌜ r ≡ writtenOf (successLent id «type_number» result (numbers .entry) (run .entry) (lengths .entry) (now (out .entry)) .told) ⌝ }
+    ensures { λ _. ⌜ now (out .exit) ≡ successLent id «type_number» result (numbers .entry) (run .entry) (lengths .entry) (now (out .entry)) .buffer ⌝ }
 {
     let written = write_success(id, type_number, result, numbers, run, lengths, out);
     TushaletsWritten::of(written)
@@ -69,7 +69,7 @@ fn write_success(
     lengths: &[u32],
     out: &mut [u8],
 ) -> Written
-    ensures { λ r. ⌜ Wrote (successBy id «type_number» result (now (numbers .entry)) (now (run .entry)) (now (lengths .entry)) (now (out .entry))) (now (out .exit)) r ⌝ }
+    ensures { λ r. ⌜ Writes (successLent id «type_number» result (numbers .entry) (run .entry) (lengths .entry)) (out .entry) (out .exit) r ⌝ }
 {
     match type_number {
         Method::ACCESS_REPLY => reply_writer::write_access(id, result, out),
@@ -92,7 +92,7 @@ fn write_success(
         Method::READ_REPLY => reply_writer::write_read(id, result, run, out),
         Method::WRITE_REPLY => reply_writer::write_write(id, result, out),
         Method::MKDIR_REPLY => reply_writer::write_mkdir(id, result, out),
-        Method::READDIR_REPLY => names_writer::write_readdir(id, result, run, lengths, out),
+        Method::READDIR_REPLY => readdir_writer::write_readdir(id, result, run, lengths, out),
         Method::RMDIR_REPLY => reply_writer::write_rmdir(id, result, out),
         Method::STATFS_REPLY => {
             reply_writer::write_statfs(id, result, statistics_of(numbers), out)

@@ -6,13 +6,13 @@ ghost use mathlib.Core.Bool.{true};
 ghost use Rattle.layout.specs.Table.{request};
 ghost use Rattle.layout.specs.Reading.{unknown};
 ghost use Rattle.layout.specs.Writing.{write};
-ghost use Rattle.writer.specs.Writers.{Wrote};
-ghost use Rattle.exports.specs.Given.{requestBy};
+ghost use Rattle.message_writer.specs.Writers.{Writes};
+ghost use Rattle.exports.specs.Given.{requestLent};
 ghost use Rattle.exports.specs.Shown.{writtenOf};
 use exports::TushaletsWritten;
 use exports_values::*;
+use message_writer::Written;
 use method::Method;
-use writer::Written;
 
 // A known request. `first` and `second` are its texts or data, in the order of the page.
 #[no_mangle]
@@ -24,8 +24,8 @@ pub extern "C" fn tushalets_write_request(
     second: &[u8],
     out: &mut [u8],
 ) -> TushaletsWritten
-    ensures { λ r. ⌜ r ≡ writtenOf (requestBy id «type_number» (now (numbers .entry)) (now (first .entry)) (now (second .entry)) (now (out .entry)) .told) ⌝ }
-    ensures { λ _. ⌜ now (out .exit) ≡ requestBy id «type_number» (now (numbers .entry)) (now (first .entry)) (now (second .entry)) (now (out .entry)) .buffer ⌝ }
+    ensures { λ r. ⌜ r ≡ writtenOf (requestLent id «type_number» (numbers .entry) (first .entry) (second .entry) (now (out .entry)) .told) ⌝ }
+    ensures { λ _. ⌜ now (out .exit) ≡ requestLent id «type_number» (numbers .entry) (first .entry) (second .entry) (now (out .entry)) .buffer ⌝ }
 {
     let written = write_request(id, type_number, numbers, first, second, out);
     TushaletsWritten::of(written)
@@ -54,7 +54,7 @@ fn write_request(
     second: &[u8],
     out: &mut [u8],
 ) -> Written
-    ensures { λ r. ⌜ Wrote (requestBy id «type_number» (now (numbers .entry)) (now (first .entry)) (now (second .entry)) (now (out .entry))) (now (out .exit)) r ⌝ }
+    ensures { λ r. ⌜ Writes (requestLent id «type_number» (numbers .entry) (first .entry) (second .entry)) (out .entry) (out .exit) r ⌝ }
 {
     match type_number {
         Method::ACCESS => request_writer::write_access(id, first, low_i8(numbers[0]), out),

@@ -6,38 +6,38 @@ ghost use Prim.Native.Nat.{_%_};
 ghost use lib.Dec.{eqb};
 ghost use Rattle.number.specs.TwosComplement.{signedOf};
 ghost use Rattle.layout.specs.Kinds.{kinds, attributes, statistics};
-ghost use Rattle.layout.specs.Limits.{unexpectedType};
-ghost use Rattle.field.specs.Values.{attributesValues, statisticsValues};
-ghost use Rattle.writer.specs.declared.Written.the-variants.{Refused};
+ghost use Rattle.layout.specs.Refusals.{unexpectedType};
+ghost use Rattle.wire.specs.Values.{attributesValues, statisticsValues};
+ghost use Rattle.message_writer.specs.declared.Written.the-variants.{Refused};
 ghost use Rattle.exports.specs.Given.{given};
-use field::Attributes;
-use field::Statistics;
-use field::Timestamp;
-use writer::Written;
+use message_writer::Written;
+use wire::Attributes;
+use wire::Refusal;
+use wire::Statistics;
+use wire::Timestamp;
 
-// The number of the refusal of a type that no such message has (document 01: stray).
-const UNEXPECTED_TYPE: u8 = 3;
-
-// The number of 8, or 32, bits in the low bits of a word.
+// The number in the low 8 bits of a word.
 pub fn low_u8(n: u64) -> u8
     ensures { λ r. ⌜ r ≡ n % 0x100 ⌝ }
 {
     (n % 0x100) as u8
 }
 
+// The number in the low 32 bits of a word.
 pub fn low_u32(n: u64) -> u32
     ensures { λ r. ⌜ r ≡ n % 0x1_0000_0000 ⌝ }
 {
     (n % 0x1_0000_0000) as u32
 }
 
-// The same of a signed number, by two's complement.
+// The signed number in the low 8 bits of a word, by two's complement.
 pub fn low_i8(n: u64) -> i8
     ensures { λ r. ⌜ r ≡ signedOf 1 (n % 0x100) ⌝ }
 {
     number::i8_of_bits(low_u8(n))
 }
 
+// The signed number in the low 32 bits of a word.
 pub fn low_i32(n: u64) -> i32
     ensures { λ r. ⌜ r ≡ signedOf 4 (n % 0x1_0000_0000) ⌝ }
 {
@@ -104,7 +104,7 @@ pub fn unexpected() -> Written
     ensures { λ r. ⌜ r ≡ Refused unexpectedType 0 ⌝ }
 {
     Written::Refused {
-        number: UNEXPECTED_TYPE,
+        number: Refusal::UNEXPECTED_TYPE,
         place: 0,
     }
 }

@@ -9,19 +9,21 @@ use lib.Dec.{leb}
 use lib.ListN.{length}
 use borrow.Author.Tests.{le-leb, eq-eqb, ne-eqb}
 use Rattle.number.specs.BigEndian.{bytesOf}
+use Rattle.method.specs.Methods.{replyOffset}
 use Rattle.layout.specs.Kinds.{Kind}
-use Rattle.layout.specs.Limits.{longest}
-use Rattle.layout.specs.Table.{request, reply, unknownResponse, led, plan}
+use Rattle.layout.specs.Refusals.{truncatedHeader, oversize}
+use Rattle.layout.specs.Limits.{headerSize, longest}
+use Rattle.layout.specs.Table.{request, reply, unknownResponse, led, HasFields, plan}
 use Rattle.layout.specs.Values.{Part, Value, signed}
 use Rattle.layout.specs.Reading.{unknown, known, failure, refused as not-read, accepted, read}
-use Rattle.layout.specs.Writing.{encodeMessage, Written as Outcome, storeChecked, write}
+use Rattle.layout.specs.Writing.{encodeMessage, WriteOutcome, storeChecked, write}
 use Rattle.layout.specs.Front.{idOf, typeOf, unknownReply, invalid, invalidReply, handed-on, refused, reply-with, settle, front}
-use Rattle.layout.proofs.Header.{read-runt}
+use Rattle.layout.proofs.Header.{read-truncated-header}
 use Rattle.layout.proofs.Trace.{message-traced}
 use Rattle.layout.proofs.ReplyTypes.{led-type}
 use Rattle.layout.proofs.Fronting.{front-accepted, length-unknownReply, length-invalidReply}
-use Rattle.writer.specs.declared.Written.{Written}
-use Rattle.writer.specs.Writers.{toldOf, Wrote}
+use Rattle.message_writer.specs.declared.Written.{Written}
+use Rattle.message_writer.specs.Writers.{toldOf, Wrote}
 use Rattle.front.specs.declared.Fronted.{Fronted}
 use Rattle.front.specs.Acts.{actOf, actTold, Fronts, RefusedWith}
 
@@ -35,7 +37,7 @@ settled e l {n} {w} {r} s h t = go (leb (length e) (length l)) refl
     go true f = record { acts = rw f (t ∙ ap actTold (h .tells) ∙ rw (le-leb (length e) longest s, f)); leaves = rw f (h .leaves ∙ rw (le-leb (length e) longest s, f)) }
     go false f = record { acts = rw f (t ∙ ap actTold (h .tells) ∙ rw (le-leb (length e) longest s, f)); leaves = rw f (h .leaves ∙ rw (le-leb (length e) longest s, f)) }
 
--- the unknown response is the five bytes of the front
+-- the unknown response is that of the front
 response-is : (i : ℕ) (l : List ℕ) → write reply unknown i unknownResponse [] true l ≡ storeChecked (unknownReply i) l
 unfolding write plan encodeMessage unknownReply bytesOf
 response-is i l = refl
@@ -43,20 +45,20 @@ response-is i l = refl
 pub response-settles : (i : ℕ) (l : List ℕ) {n : List ℕ} {w : Written} {r : Fronted} → Wrote (write reply unknown i unknownResponse [] true l) n w
     → actOf r ≡ actTold (toldOf w) → Fronts (settle (reply-with (unknownReply i)) l) n r
 response-settles i l {n} {w} h t =
-    settled (unknownReply i) l (omega (arith, length-unknownReply i)) (subst (λ (o : Outcome). Wrote o n w) (response-is i l) h) t
+    settled (unknownReply i) l (omega (arith, length-unknownReply i)) (subst (λ (o : WriteOutcome). Wrote o n w) (response-is i l) h) t
 
--- a failure of a method with fields is the nine bytes of the front
-invalid-is : (i t : ℕ) (l : List ℕ) {count : Bool} {ks : List Kind} → plan reply (t + 0x80) ≡ led count ks
-    → write reply failure i (t + 0x80) (signed invalid ∷ []) true l ≡ storeChecked (invalidReply i t) l
+-- a failure of a method with fields is that of the front
+invalid-is : (i t : ℕ) (l : List ℕ) {count : Bool} {ks : List Kind} → plan reply (t + replyOffset) ≡ led count ks
+    → write reply failure i (t + replyOffset) (signed invalid ∷ []) true l ≡ storeChecked (invalidReply i t) l
 unfolding write encodeMessage invalidReply bytesOf
 invalid-is i t l {count = true} p = rw p
 invalid-is i t l {count = false} p = rw p
 
-pub invalid-settles : (i t : ℕ) (l : List ℕ) {n : List ℕ} {w : Written} {r : Fronted} → 1 ≤ t → t ≤ 22 → Wrote (write reply failure i (t + 0x80) (signed invalid ∷ []) true l) n w
+pub invalid-settles : (i t : ℕ) (l : List ℕ) {n : List ℕ} {w : Written} {r : Fronted} → HasFields t → Wrote (write reply failure i (t + replyOffset) (signed invalid ∷ []) true l) n w
     → actOf r ≡ actTold (toldOf w) → Fronts (settle (reply-with (invalidReply i t)) l) n r
-invalid-settles i t l {n} {w} low high h a =
-    let p = led-type (t + 0x80) (omega arith) (omega arith) in
-    settled (invalidReply i t) l (omega (arith, length-invalidReply i t)) (subst (λ (o : Outcome). Wrote o n w) (invalid-is i t l (p .is)) h) a
+invalid-settles i t l {n} {w} f h a =
+    let p = led-type (t + replyOffset) (omega (arith, f .0), omega (arith, f .1)) in
+    settled (invalidReply i t) l (omega (arith, length-invalidReply i t)) (subst (λ (o : WriteOutcome). Wrote o n w) (invalid-is i t l (p .is)) h) a
 
 -- ---- by what the reader answers
 
@@ -68,23 +70,23 @@ pub unknown-answered : (m l : List ℕ) {i t k : ℕ} {vs : List (Value Part)} {
 unknown-answered m l e h = rw (front-accepted (message-traced e) l) h
 
 -- a header that is not refused is whole
-pub header-whole : (m : List ℕ) {n : ℕ} → RefusedWith m n → (n ≡ 1 → ⊥) → 5 ≤ length m
-header-whole m {n} q a = go (decLt (length m) 5)
+pub header-whole : (m : List ℕ) {n : ℕ} → RefusedWith m n → (n ≡ truncatedHeader → ⊥) → headerSize ≤ length m
+header-whole m {n} q a = go (decLt (length m) headerSize)
   where
-    go : Dec (length m < 5) → 5 ≤ length m
-    go (yes h) = absurd (a (let r : not-read n (q .place) ≡ not-read 1 0 = sym (q .is) ∙ read-runt request m h in cc))
+    go : Dec (length m < headerSize) → headerSize ≤ length m
+    go (yes h) = absurd (a (let r : not-read n (q .place) ≡ not-read truncatedHeader 0 = sym (q .is) ∙ read-truncated-header request m h in cc))
     go (no h) = omega arith
 
 module _ (m l : List ℕ) {n : ℕ} (q : RefusedWith m n) where
-  pub header-refused : n ≡ 1 → {r : Fronted} → actOf r ≡ refused 1 0 → Fronts (front m l) l r
+  pub header-refused : n ≡ truncatedHeader → {r : Fronted} → actOf r ≡ refused truncatedHeader 0 → Fronts (front m l) l r
   unfolding front
   header-refused e a = record { acts = rw (q .is, e) a; leaves = rw (q .is, e) }
 
-  pub oversize-answered : n ≡ 2 → {o : List ℕ} {r : Fronted} → Fronts (settle (reply-with (unknownReply (idOf m))) l) o r → Fronts (front m l) o r
+  pub oversize-answered : n ≡ oversize → {o : List ℕ} {r : Fronted} → Fronts (settle (reply-with (unknownReply (idOf m))) l) o r → Fronts (front m l) o r
   unfolding front
   oversize-answered e h = rw (q .is, e) h
 
-  pub invalid-answered : (n ≡ 1 → ⊥) → (n ≡ 2 → ⊥) → {o : List ℕ} {r : Fronted} → Fronts (settle (reply-with (invalidReply (idOf m) (typeOf m))) l) o r
+  pub invalid-answered : (n ≡ truncatedHeader → ⊥) → (n ≡ oversize → ⊥) → {o : List ℕ} {r : Fronted} → Fronts (settle (reply-with (invalidReply (idOf m) (typeOf m))) l) o r
       → Fronts (front m l) o r
   unfolding front
-  invalid-answered a b h = rw (q .is, ne-eqb n 1 a, ne-eqb n 2 b) h
+  invalid-answered a b h = rw (q .is, ne-eqb n truncatedHeader a, ne-eqb n oversize b) h

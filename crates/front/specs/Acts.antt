@@ -5,7 +5,7 @@ use mathlib.Core.List.{List}
 use Rattle.layout.specs.Table.{request}
 use Rattle.layout.specs.Reading.{refused as not-read, read}
 use Rattle.layout.specs.Writing.{Told, stored as told-stored, refused as told-refused}
-use Rattle.layout.specs.Front.{Act, handed-on, stored, refused, Fronted as Outcome}
+use Rattle.layout.specs.Front.{Act, handed-on, stored, refused, FrontOutcome}
 use Rattle.front.specs.declared.Fronted.{Fronted}
 use Rattle.front.specs.declared.Fronted.the-variants.{HandedOn, Stored, Refused}
 
@@ -21,7 +21,7 @@ actTold (told-stored n) = stored n
 actTold (told-refused n p) = refused n p
 
 -- a front that left the buffer n and answered r did what w says
-pub record Fronts (w : Outcome) (n : List ℕ) (r : Fronted) : Type 0 where
+pub record Fronts (w : FrontOutcome) (n : List ℕ) (r : Fronted) : Type 0 where
   pub acts : actOf r ≡ w .act
   pub leaves : n ≡ w .buffer
 

@@ -1,24 +1,29 @@
 // The provider's front: a request that no file system is needed for is answered, and every known request is handed on. It knows the
 // reader and the writer through their contracts alone.
 ghost use mathlib.Core.Path.{_≡_};
-ghost use Prim.Native.Nat.{_≤_};
-ghost use lib.ListN.{length};
-ghost use Rattle.layout.specs.Front.{front as layout·front, idOf, typeOf, unknownReply, invalidReply, reply-with, settle};
-ghost use Rattle.writer.specs.Writers.{toldOf};
+ghost use Rattle.layout.specs.Table.{HasFields};
+ghost use Rattle.layout.specs.Front.{front as layout·front, unknownReply, invalidReply, reply-with, settle};
+ghost use Rattle.message_writer.specs.Writers.{toldOf};
 ghost use Rattle.front.specs.Acts.{actOf, actTold, Fronts, RefusedWith};
-use field::Cursor;
+use message_writer::Written;
+use method::Method;
 use request_reader::RequestAnswer;
-use writer::Written;
+use wire::Refusal;
 
-// What the front tells: the request is handed on, so many bytes of a reply were stored, or document 01's number of refusal, with its
-// place.
+// The result that answers an invalid request: EINVAL, negative.
+const INVALID: i32 = -22;
+
+// What the front tells.
 pub enum Fronted {
+    // The request is for the file system.
     HandedOn,
+    // So many bytes of a reply were stored.
     Stored { len: usize },
+    // Document 01's number of refusal, and its place.
     Refused { number: u8, place: usize },
 }
 
-// Answers a request into `out`, or hands it on. A refusal changes no byte of `out`.
+// Answers a request into `out`, or hands it on. A refusal changes no byte of `out`. Refuses 1, and 7 where a reply is to be stored.
 pub fn front(request: &[u8], out: &mut [u8]) -> Fronted
     ensures { λ r. ⌜ Fronts (layout·front (now (request .entry)) (now (out .entry))) (now (out .exit)) r ⌝ }
 {
@@ -36,36 +41,17 @@ fn answer_refused(request: &[u8], number: u8, out: &mut [u8]) -> Fronted
     requires { ⌜ RefusedWith (now request) number ⌝ }
     ensures { λ r. ⌜ Fronts (layout·front (now (request .entry)) (now (out .entry))) (now (out .exit)) r ⌝ }
 {
-    if number == 1 {
+    if number == Refusal::TRUNCATED_HEADER {
         return Fronted::Refused {
-            number: 1,
+            number: Refusal::TRUNCATED_HEADER,
             place: 0,
         };
     }
-    let header = header_of(request);
-    if number == 2 {
+    let header = field_reader::read_header(request).value;
+    if number == Refusal::OVERSIZE {
         return answer_unknown(header.id, out);
     }
-    answer_invalid(header.id, header.kind, out)
-}
-
-struct Header {
-    id: u32,
-    kind: u8,
-}
-
-// Asks for five bytes: `answer_refused` has refused a shorter request.
-fn header_of(request: &[u8]) -> Header
-    requires { ⌜ 5 ≤ length (now request) ⌝ }
-    ensures { λ r. ⌜ (r .id ≡ idOf (now (request .entry))) × (r .kind ≡ typeOf (now (request .entry))) ⌝ }
-{
-    let start = Cursor { code: 0, at: 0 };
-    let id = field::u32_at(request, start);
-    let kind = field::u8_at(request, id.next);
-    Header {
-        id: id.value,
-        kind: kind.value,
-    }
+    answer_invalid(header.id, header.type_number, out)
 }
 
 // The unknown response.
@@ -77,12 +63,12 @@ fn answer_unknown(id: u32, out: &mut [u8]) -> Fronted
 }
 
 // The failure of the request's own method with EINVAL.
-// Asks for a type of 1 to 22: no other request is refused for its fields.
-fn answer_invalid(id: u32, kind: u8, out: &mut [u8]) -> Fronted
-    requires { ⌜ (1 ≤ kind) × (kind ≤ 22) ⌝ }
-    ensures { λ r. ⌜ Fronts (settle (reply-with (invalidReply id kind)) (now (out .entry))) (now (out .exit)) r ⌝ }
+// Asks for a type that has fields: no other request is refused for them.
+fn answer_invalid(id: u32, type_number: u8, out: &mut [u8]) -> Fronted
+    requires { ⌜ HasFields «type_number» ⌝ }
+    ensures { λ r. ⌜ Fronts (settle (reply-with (invalidReply id «type_number»)) (now (out .entry))) (now (out .exit)) r ⌝ }
 {
-    let written = reply_writer::write_failure(id, kind + 0x80, -22, out);
+    let written = reply_writer::write_failure(id, type_number + Method::REPLY_OFFSET, INVALID, out);
     told(written)
 }
 

@@ -5,30 +5,33 @@ use mathlib.Core.List.{List, []}
 use lib.IntN.{ℤ}
 use lib.ListN.{length, take, drop}
 use lib.Seq.{drop-at}
-use Rattle.layout.specs.Writing.{Written as Outcome, writeNames}
+use denote.Ref.{now}
+use denote.Triple.Both.{Both}
+use Rattle.layout.specs.Writing.{WriteOutcome, writeNames}
 use Rattle.layout.specs.Front.{front}
 use Rattle.layout.specs.Isolation.{WriterIsolated}
 use Rattle.layout.proofs.Isolating.{store-isolated, write-isolated, front-isolated, isolated-runs}
 use Rattle.front.specs.Acts.{Fronts}
-use Rattle.writer.specs.Writers.{Wrote}
-use Rattle.listing.specs.Listing.{listing, listed}
-use Rattle.names_writer.specs.declared.Collected.{Collected}
-use Rattle.names_writer.specs.declared.Collected.the-variants.{Copied, Refused}
-use Rattle.names_writer.specs.Collecting.{namesIn, sizes, joined, counted, Buffers, Collects}
-use Rattle.names_writer.proofs.Copying.{copied}
-use Rattle.names_writer.proofs.Again.{names-sum, run-part, lengths-part}
+use Rattle.message_writer.specs.Writers.{Writes}
+use Rattle.request_listing.specs.Listing.{listing, listed}
+use Rattle.readdir_writer.specs.declared.Collected.{Collected}
+use Rattle.readdir_writer.specs.declared.Collected.the-variants.{Copied, Refused}
+use Rattle.readdir_writer.specs.Collecting.{namesIn, sizes, joined, counted, Buffers, Collects}
+use Rattle.readdir_writer.proofs.Copying.{copied}
+use Rattle.readdir_writer.proofs.CollectedParts.{names-sum, run-part, lengths-part}
 use Rattle.isolation.specs.declared.WrittenTwice.{WrittenTwice}
 use Rattle.isolation.specs.declared.FrontedTwice.{FrontedTwice}
 use Rattle.isolation.specs.declared.CollectedTwice.{CollectedTwice}
-use Rattle.isolation.specs.Alone.{countOf, sizeOf, SameRoom, WritesApart, FrontsApart, CollectsApart}
+use Rattle.isolation.specs.Alone.{Lent, WritesApart, FrontsApart, countOf, sizeOf, SameRoom, CollectsApart}
 
 -- a writer
-pub wrote-apart : {w : List ℕ → Outcome} {a b a′ b′ : List ℕ} {r : WrittenTwice} → WriterIsolated w → Wrote (w a) a′ (r .first) → Wrote (w b) b′ (r .second)
-    → WritesApart w r a b a′ b′
+pub wrote-apart : {w : List ℕ → WriteOutcome} {out other : Lent} {r : WrittenTwice} → WriterIsolated w → Writes w (out .entry) (out .exit) (r .first)
+    → Writes w (other .entry) (other .exit) (r .second) → WritesApart w r out other
 wrote-apart i p q = record { first = p; second = q; apart = isolated-runs i (p .tells) (p .leaves) (q .tells) (q .leaves) }
 
 -- the front
-pub fronted-apart : (m : List ℕ) {a b a′ b′ : List ℕ} {r : FrontedTwice} → Fronts (front m a) a′ (r .first) → Fronts (front m b) b′ (r .second) → FrontsApart m r a b a′ b′
+pub fronted-apart : (m : List ℕ) {out other : Lent} {r : FrontedTwice} → Fronts (front m (now (out .entry))) (now (out .exit)) (r .first)
+    → Fronts (front m (now (other .entry))) (now (other .exit)) (r .second) → FrontsApart m r out other
 fronted-apart m p q = record { first = p; second = q; apart = isolated-runs (front-isolated m) (p .acts) (p .leaves) (q .acts) (q .leaves) }
 
 pub listing-isolated : (m : List ℕ) → WriterIsolated (λ (a : List ℕ). listed m a)
@@ -74,10 +77,11 @@ module _ (m : List ℕ) (n : ℕ) where
         ap (λ (z : Buffers). drop count (z .lengths)) (h .leaves) ∙ drop-at (sizes (namesIn m n)) (drop count (b .lengths)) count (sym (c .0))
     lengths-kept (Refused c p) h = ap (λ (z : Buffers). z .lengths) (h .leaves)
 
-  pub collects-apart : {b d b′ d′ : Buffers} {r : CollectedTwice} → Collects m (namesIn m n) b b′ (r .first) → Collects m (namesIn m n) d d′ (r .second)
-      → CollectsApart m (namesIn m n) r b d b′ d′
-  collects-apart {b} {d} {b′} {d′} {r} p q =
-      let same : SameRoom b d → r .first ≡ r .second = λ h. p .answers ∙ ap₂ (λ (x y : ℕ). counted (sizes (namesIn m n)) x y) (h .run) (h .lengths) ∙ sym (q .answers) in
+  pub collects-apart : {b d : Both Buffers Buffers} {r : CollectedTwice} → Collects m (namesIn m n) (b .entry) (b .exit) (r .first)
+      → Collects m (namesIn m n) (d .entry) (d .exit) (r .second) → CollectsApart m (namesIn m n) r b d
+  collects-apart {b} {d} {r} p q =
+      let same : SameRoom (b .entry) (d .entry) → r .first ≡ r .second =
+      λ h. p .answers ∙ ap₂ (λ (x y : ℕ). counted (sizes (namesIn m n)) x y) (h .run) (h .lengths) ∙ sym (q .answers) in
       record {
         first = p;
         second = q;

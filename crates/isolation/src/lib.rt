@@ -2,26 +2,23 @@
 // buffers, and promise that what they answer and the bytes that they report do not depend on what the buffers held, and that the bytes behind
 // are those that were there.
 ghost use mathlib.Core.Bool.{true};
-ghost use mathlib.Core.List.{[], _∷_, map};
+ghost use mathlib.Core.List.{[], _∷_};
 ghost use Rattle.method.specs.declared.Method.the-variants as methods;
 ghost use Rattle.layout.specs.Table.{request as request·side, reply as reply·side, unknownResponse};
 ghost use Rattle.layout.specs.Values.{signed, run};
 ghost use Rattle.layout.specs.Reading.{unknown, failure};
 ghost use Rattle.layout.specs.Writing.{write, writeNames};
-ghost use Rattle.field.specs.Values.{shownIn};
-ghost use Rattle.request_reader.specs.Answers.{methodOf as requestMethod, valuesOf as requestValues};
-ghost use Rattle.request_writer.specs.Asking.{asking};
-ghost use Rattle.reply_reader.specs.Answers.{methodOf as replyMethod, valuesOf as replyValues};
+ghost use Rattle.request_rewriter.specs.Rewriting.{rewriting as rewritingRequest};
 ghost use Rattle.reply_writer.specs.Replying.{replying};
-ghost use Rattle.reply_rewriter.specs.Rewriting.{writtenIn};
-ghost use Rattle.names_writer.specs.Collecting.{namesIn, buffers};
-ghost use Rattle.listing.specs.Listing.{listed};
-ghost use Rattle.isolation.specs.Alone.{WritesApart, FrontsApart, CollectsApart};
+ghost use Rattle.reply_rewriter.specs.Rewriting.{rewriting as rewritingReply};
+ghost use Rattle.readdir_writer.specs.Collecting.{namesIn};
+ghost use Rattle.request_listing.specs.Listing.{listed};
+ghost use Rattle.isolation.specs.Alone.{WritesApart, FrontsApart, lentBoth, CollectsApart};
 use front::Fronted;
-use names_writer::Collected;
+use message_writer::Written;
+use readdir_writer::Collected;
 use reply_reader::Reply;
 use request_reader::Request;
-use writer::Written;
 
 // The answers of two runs.
 pub struct WrittenTwice {
@@ -37,7 +34,7 @@ pub fn write_request_twice(
     out: &mut [u8],
     other: &mut [u8],
 ) -> WrittenTwice
-    ensures { λ r. ⌜ WritesApart (λ o. asking (requestMethod request) id (map (shownIn (now (texts .entry))) (requestValues request)) o) r (now (out .entry)) (now (other .entry)) (now (out .exit)) (now (other .exit)) ⌝ }
+    ensures { λ r. ⌜ WritesApart (rewritingRequest request id (now (texts .entry))) r out other ⌝ }
 {
     let first = request_rewriter::write_request(id, request, texts, out);
     let second = request_rewriter::write_request(id, request, texts, other);
@@ -45,11 +42,16 @@ pub fn write_request_twice(
 }
 
 // A request of a type that is no method's.
-pub fn write_unknown_twice(id: u32, kind: u8, out: &mut [u8], other: &mut [u8]) -> WrittenTwice
-    ensures { λ r. ⌜ WritesApart (λ o. write request·side unknown id kind [] true o) r (now (out .entry)) (now (other .entry)) (now (out .exit)) (now (other .exit)) ⌝ }
+pub fn write_unknown_twice(
+    id: u32,
+    type_number: u8,
+    out: &mut [u8],
+    other: &mut [u8],
+) -> WrittenTwice
+    ensures { λ r. ⌜ WritesApart (write request·side unknown id «type_number» [] true) r out other ⌝ }
 {
-    let first = request_writer::write_unknown(id, kind, out);
-    let second = request_writer::write_unknown(id, kind, other);
+    let first = request_writer::write_unknown(id, type_number, out);
+    let second = request_writer::write_unknown(id, type_number, other);
     WrittenTwice { first, second }
 }
 
@@ -62,7 +64,7 @@ pub fn write_reply_twice(
     out: &mut [u8],
     other: &mut [u8],
 ) -> WrittenTwice
-    ensures { λ r. ⌜ WritesApart (λ o. replying (replyMethod reply) id (signed result ∷ map (writtenIn (now (message .entry))) (replyValues (now (message .entry)) reply)) o) r (now (out .entry)) (now (other .entry)) (now (out .exit)) (now (other .exit)) ⌝ }
+    ensures { λ r. ⌜ WritesApart (rewritingReply reply id result (now (message .entry))) r out other ⌝ }
 {
     let first = reply_rewriter::write_reply(id, result, reply, message, out);
     let second = reply_rewriter::write_reply(id, result, reply, message, other);
@@ -78,16 +80,16 @@ pub fn write_readdir_twice(
     out: &mut [u8],
     other: &mut [u8],
 ) -> WrittenTwice
-    ensures { λ r. ⌜ WritesApart (λ o. writeNames id result (now (lengths .entry)) (now (names .entry)) o) r (now (out .entry)) (now (other .entry)) (now (out .exit)) (now (other .exit)) ⌝ }
+    ensures { λ r. ⌜ WritesApart (writeNames id result (now (lengths .entry)) (now (names .entry))) r out other ⌝ }
 {
-    let first = names_writer::write_readdir(id, result, names, lengths, out);
-    let second = names_writer::write_readdir(id, result, names, lengths, other);
+    let first = readdir_writer::write_readdir(id, result, names, lengths, out);
+    let second = readdir_writer::write_readdir(id, result, names, lengths, other);
     WrittenTwice { first, second }
 }
 
 // The reply that has no result.
 pub fn write_getcreds_twice(id: u32, creds: &[u8], out: &mut [u8], other: &mut [u8]) -> WrittenTwice
-    ensures { λ r. ⌜ WritesApart (λ o. replying methods.Getcreds id (run (now (creds .entry)) ∷ []) o) r (now (out .entry)) (now (other .entry)) (now (out .exit)) (now (other .exit)) ⌝ }
+    ensures { λ r. ⌜ WritesApart (replying methods.Getcreds id (run (now (creds .entry)) ∷ [])) r out other ⌝ }
 {
     let first = reply_writer::write_getcreds(id, creds, out);
     let second = reply_writer::write_getcreds(id, creds, other);
@@ -97,20 +99,21 @@ pub fn write_getcreds_twice(id: u32, creds: &[u8], out: &mut [u8], other: &mut [
 // The failure of any method.
 pub fn write_failure_twice(
     id: u32,
-    kind: u8,
+    type_number: u8,
     result: i32,
     out: &mut [u8],
     other: &mut [u8],
 ) -> WrittenTwice
-    ensures { λ r. ⌜ WritesApart (λ o. write reply·side failure id kind (signed result ∷ []) true o) r (now (out .entry)) (now (other .entry)) (now (out .exit)) (now (other .exit)) ⌝ }
+    ensures { λ r. ⌜ WritesApart (write reply·side failure id «type_number» (signed result ∷ []) true) r out other ⌝ }
 {
-    let first = reply_writer::write_failure(id, kind, result, out);
-    let second = reply_writer::write_failure(id, kind, result, other);
+    let first = reply_writer::write_failure(id, type_number, result, out);
+    let second = reply_writer::write_failure(id, type_number, result, other);
     WrittenTwice { first, second }
 }
 
+// The unknown response.
 pub fn write_unknown_response_twice(id: u32, out: &mut [u8], other: &mut [u8]) -> WrittenTwice
-    ensures { λ r. ⌜ WritesApart (λ o. write reply·side unknown id unknownResponse [] true o) r (now (out .entry)) (now (other .entry)) (now (out .exit)) (now (other .exit)) ⌝ }
+    ensures { λ r. ⌜ WritesApart (write reply·side unknown id unknownResponse [] true) r out other ⌝ }
 {
     let first = reply_writer::write_unknown_response(id, out);
     let second = reply_writer::write_unknown_response(id, other);
@@ -119,13 +122,14 @@ pub fn write_unknown_response_twice(id: u32, out: &mut [u8], other: &mut [u8]) -
 
 // The listing of a request.
 pub fn list_request_twice(message: &[u8], out: &mut [u8], other: &mut [u8]) -> WrittenTwice
-    ensures { λ r. ⌜ WritesApart (λ o. listed (now (message .entry)) o) r (now (out .entry)) (now (other .entry)) (now (out .exit)) (now (other .exit)) ⌝ }
+    ensures { λ r. ⌜ WritesApart (listed (now (message .entry))) r out other ⌝ }
 {
-    let first = listing::list_request(message, out);
-    let second = listing::list_request(message, other);
+    let first = request_listing::list_request(message, out);
+    let second = request_listing::list_request(message, other);
     WrittenTwice { first, second }
 }
 
+// What the front told of each buffer.
 pub struct FrontedTwice {
     pub first: Fronted,
     pub second: Fronted,
@@ -133,13 +137,14 @@ pub struct FrontedTwice {
 
 // The front, on any request.
 pub fn front_twice(request: &[u8], out: &mut [u8], other: &mut [u8]) -> FrontedTwice
-    ensures { λ r. ⌜ FrontsApart (now (request .entry)) r (now (out .entry)) (now (other .entry)) (now (out .exit)) (now (other .exit)) ⌝ }
+    ensures { λ r. ⌜ FrontsApart (now (request .entry)) r out other ⌝ }
 {
     let first = front::front(request, out);
     let second = front::front(request, other);
     FrontedTwice { first, second }
 }
 
+// What collecting names told of each pair of buffers.
 pub struct CollectedTwice {
     pub first: Collected,
     pub second: Collected,
@@ -154,9 +159,9 @@ pub fn collect_names_twice(
     other_run: &mut [u8],
     other_lengths: &mut [u32],
 ) -> CollectedTwice
-    ensures { λ r. ⌜ CollectsApart (now (m .entry)) (namesIn (now (m .entry)) count) r (buffers (now (run .entry)) (now (lengths .entry))) (buffers (now («other_run» .entry)) (now («other_lengths» .entry))) (buffers (now (run .exit)) (now (lengths .exit))) (buffers (now («other_run» .exit)) (now («other_lengths» .exit))) ⌝ }
+    ensures { λ r. ⌜ CollectsApart (now (m .entry)) (namesIn (now (m .entry)) count) r (lentBoth run lengths) (lentBoth «other_run» «other_lengths») ⌝ }
 {
-    let first = names_writer::collect_names(m, count, run, lengths);
-    let second = names_writer::collect_names(m, count, other_run, other_lengths);
+    let first = readdir_writer::collect_names(m, count, run, lengths);
+    let second = readdir_writer::collect_names(m, count, other_run, other_lengths);
     CollectedTwice { first, second }
 }

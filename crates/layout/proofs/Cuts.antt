@@ -10,7 +10,8 @@ use lib.ListN.{length, take, drop, length-take}
 use borrow.Author.Tests.{ltb-true, ltb-false, lt-ltb, le-ltb, lt-leb, le-leb}
 use Rattle.number.specs.BigEndian.{numberAt}
 use Rattle.layout.specs.Kinds.{width, Kind, strings}
-use Rattle.layout.specs.Limits.{truncated, longest}
+use Rattle.layout.specs.Refusals.{truncated}
+use Rattle.layout.specs.Limits.{headerSize, longest}
 use Rattle.layout.specs.Table.{Side, Plan, led, plan}
 use Rattle.layout.specs.Values.{Part, part, Value}
 use Rattle.layout.specs.Reading.{Outcome, got, fail, numAt, runAt, sizedAt, stringsAt, fieldAt, fieldsAt, Shape, succeeded, bodyAt, messageAt, answer, read}
@@ -140,7 +141,7 @@ module _ (m : List ℕ) (j : ℕ) where
 pub message-cut : {side : Side} {m : List ℕ} {s : Shape} {i t k : ℕ} {vs : List (Value Part)} → MessageHere side m s i t vs k → (j : ℕ) → j < k
     → read side (take j m) ≡ cutAnswer j (pieces side s t vs)
 unfolding read messageAt cutAnswer pieces
-message-cut {side} {m} {s} {i} {t} {k} {vs} h j l = go (ltb j 5) refl
+message-cut {side} {m} {s} {i} {t} {k} {vs} h j l = go (ltb j headerSize) refl
   where
     inside : j ≤ length m
     inside = omega (arith, known-inside h)
@@ -148,18 +149,18 @@ message-cut {side} {m} {s} {i} {t} {k} {vs} h j l = go (ltb j 5) refl
     size : length (take j m) ≡ j
     size = omega (arith, length-take j m, inside)
 
-    go : (b : Bool) → ltb j 5 ≡ b → read side (take j m) ≡ cutAnswer j (pieces side s t vs)
+    go : (b : Bool) → ltb j headerSize ≡ b → read side (take j m) ≡ cutAnswer j (pieces side s t vs)
     go true e = rw (size, e)
     go false e =
-        let c : 5 ≤ j = ltb-false j 5 e in
+        let c : headerSize ≤ j = ltb-false j headerSize e in
         let d : j ≤ longest = omega (arith, inside, h .short) in
         rw (
           size,
           e,
           le-ltb longest j d,
           num-reads (num-stays (h .id) (agree-take 4 j m (h .id .fits) (omega arith))),
-          num-reads (num-stays (h .type) (agree-take 5 j m (h .type .fits) c)),
+          num-reads (num-stays (h .type) (agree-take headerSize j m (h .type .fits) c)),
           body-cut m j (h .rest) c l,
           le-leb 4 j (omega arith),
-          le-leb 5 j c,
+          le-leb headerSize j c,
         )

@@ -6,13 +6,14 @@ use Prim.Native.Nat.{ℕ}
 use lib.Dec.{leb}
 use lib.ListN.{length, take, drop}
 use lib.Seq.{take-at, drop-at}
-use Rattle.layout.specs.Limits.{oversize, unexpectedType, malformedText, dataLengthMismatch, bufferTooSmall, resultSign, lengthsMismatch, longest}
+use Rattle.layout.specs.Refusals.{oversize, unexpectedType, malformedText, dataLengthMismatch, bufferTooSmall, resultSign, lengthsMismatch}
+use Rattle.layout.specs.Limits.{longest}
 use Rattle.layout.specs.Table.{Side, request, plan}
 use Rattle.layout.specs.Values.{Value}
 use Rattle.layout.specs.Reading.{Shape, read}
 use Rattle.layout.specs.Pieces.{kindsOf}
-use Rattle.layout.specs.Writing.{Written, encodeMessage, hasShape, signRight, textsRight, countRight, refuse as refuse-write, check, store, storeChecked, write}
-use Rattle.layout.specs.Front.{Call, hand-on, refuse, reply-with, called, stored, refused, done, settle, front}
+use Rattle.layout.specs.Writing.{WriteOutcome, encodeMessage, hasShape, signRight, textsRight, countRight, refuse, check, store, storeChecked, write}
+use Rattle.layout.specs.Front.{Call, hand-on, refuse-with, reply-with, called, stored, refused, done, settle, front}
 use Rattle.layout.specs.Isolation.{Isolated, WriterIsolated, FrontIsolated, Apart}
 
 -- the bytes e in front of what stays where they fit, else the buffer as it was; told by the one answer or the other
@@ -41,14 +42,14 @@ placed {W} {A} answer reported buffer e fits lacks y n ay an by bn ry rn =
     behind a false = rw (an a, bn a, rn) refl
 
 -- a check that does not look at the buffer
-check-isolated : (c : ℕ) (t : Bool) (w : List ℕ → Written) → WriterIsolated w → WriterIsolated (λ (a : List ℕ). check c t a (w a))
+check-isolated : (c : ℕ) (t : Bool) (w : List ℕ → WriteOutcome) → WriterIsolated w → WriterIsolated (λ (a : List ℕ). check c t a (w a))
 check-isolated c true w i = i
 check-isolated c false w i = record { answers = λ a b e. refl; same = λ a b e. refl; rest = λ a. refl }
 
 -- bytes that are stored where there is room for them
 pub store-isolated : (e : List ℕ) → WriterIsolated (λ (a : List ℕ). check bufferTooSmall (leb (length e) (length a)) a (store e a))
 store-isolated e =
-    placed _ _ _ e (λ a. store e a) (λ a. refuse-write bufferTooSmall a) _ _ (λ a. refl) (λ a. refl) (λ a. refl) (λ a. refl) refl refl
+    placed _ _ _ e (λ a. store e a) (λ a. refuse bufferTooSmall a) _ _ (λ a. refl) (λ a. refl) (λ a. refl) (λ a. refl) refl refl
 
 -- every writer, of requests and of replies
 pub write-isolated : (side : Side) (s : Shape) (i t : ℕ) (vs : List (Value (List ℕ))) (summed : Bool) → WriterIsolated (λ (a : List ℕ). write side s i t vs summed a)
@@ -65,7 +66,7 @@ write-isolated side s i t vs summed =
 
 settle-isolated : (c : Call) → FrontIsolated (λ (a : List ℕ). settle c a)
 settle-isolated hand-on = record { answers = λ a b e. refl; same = λ a b e. refl; rest = λ a. refl }
-settle-isolated (refuse n) = record { answers = λ a b e. refl; same = λ a b e. refl; rest = λ a. refl }
+settle-isolated (refuse-with n) = record { answers = λ a b e. refl; same = λ a b e. refl; rest = λ a. refl }
 settle-isolated (reply-with e) =
     placed _ _ _ e (λ a. done (stored (length e)) (e ++ drop (length e) a)) (λ a. done (refused bufferTooSmall 0) a) _ _
     (λ a. refl) (λ a. refl) (λ a. refl) (λ a. refl) refl refl

@@ -13,12 +13,13 @@ use Rattle.method.specs.Methods.{Found, found, unknown as no-method, ofReply}
 use Rattle.method.proofs.Table.{reply-passes}
 use Rattle.layout.specs.Kinds.{Num, u8, i8, u32, i32, u64, bool, Kind, num, string, bytes, strings}
 use Rattle.layout.specs.Table.{row, unknownResponse, Side, reply, Plan, unexpected, header, asked, plain, led, planOf, replyPlan, plan}
-use Rattle.layout.specs.Limits.{truncatedHeader, truncated, headerSize}
+use Rattle.layout.specs.Refusals.{truncatedHeader, truncated}
+use Rattle.layout.specs.Limits.{headerSize}
 use Rattle.layout.specs.Pieces.{firstBroken, cutAnswer, Agree}
 use Rattle.layout.specs.Values.{Part, part, Value, number, signed, truth, run, runs, runsOf, bytesIn, content, contents}
 use Rattle.layout.specs.Reading.{Outcome, got, fail, anyBytes, bytesAt, stringsAt, valueOf, Shape, Answer, refused, accepted, read}
 use Rattle.layout.specs.Names.{namesAmong, namesOf, Position, position, firstName, opened, Step, name, ended, stepped, stepBy, step, gather, steps, nameOr, behindName, namesAt}
-use Rattle.layout.proofs.Tests.{apart, never}
+use Rattle.layout.proofs.Tests.{apart}
 use Rattle.layout.proofs.Stays.{body-contents}
 use Rattle.layout.proofs.Trace.{NumHere, RunHere, SizedHere, sized-here, StringsHere, no-string, a-string-more, FieldHere, a-num, a-string, a-bytes, a-strings, FieldsHere, no-field, a-field-more, BodyHere, header-only, an-asked, a-plain, a-failure, a-success, MessageHere, sized-reads, strings-traced, message-traced}
 
@@ -40,7 +41,7 @@ ended-stays m w {v} e = go (w .left) refl e
     same n f = λ i. position (w .at) (sym f i)
 
     from : (n : ℕ) → w .left ≡ suc n → (o : Outcome Part) → stepped (position (w .at) (suc n)) n o ≡ ended v → v ≡ w
-    from n f (got x q) e = let z : _≡_ {A = ℕ} 0 1 = cc in apart z
+    from n f (got x q) e = let z : false ≡ true = cc in apart z
     from n f (fail c p) e = let g : v ≡ position (w .at) (suc n) = cc in g ∙ same (suc n) f
 
     go : (n : ℕ) → w .left ≡ n → stepBy m (w .at) n ≡ ended v → v ≡ w
@@ -77,7 +78,7 @@ strings-are-names n m p e = strings-names (strings-traced n p e)
 pub names-are-steps : (n : ℕ) (m : List ℕ) (p : ℕ) {k r q : ℕ} {xs : List Part} → StringsHere m k r xs q → namesAt n m p ≡ xs → steps n m (position p n) ≡ xs
 unfolding step
 names-are-steps zero m p h e = e
-names-are-steps (suc n) m p no-string e = let z : _≡_ {A = ℕ} 0 1 = cc in apart z
+names-are-steps (suc n) m p no-string e = let z : false ≡ true = cc in apart z
 names-are-steps (suc n) m p (a-string-more {x = x} {xs = xs} (sized-here {p = r} {n = w} g i) t) e = go (λ q f. names-are-steps n m q t f) (bytesAt m p) e
   where
     go : ((q : ℕ) → namesAt n m q ≡ xs → steps n m (position q n) ≡ xs) → (o : Outcome Part) → nameOr o ∷ namesAt n m (behindName p o) ≡ x ∷ xs
@@ -87,10 +88,10 @@ names-are-steps (suc n) m p (a-string-more {x = x} {xs = xs} (sized-here {p = r}
         let tail : namesAt n m q ≡ xs = cc in
         ap (λ (y : Part). y ∷ steps n m (position q n)) head ∙ ap (λ (ys : List Part). x ∷ ys) (next q tail)
     go next (fail c q) e =
-        let none : part 0 0 ≡ x = cc in
-        let z : 0 ≡ r + 4 = ap (λ (y : Part). y .start) none in
-        let never : ⊥ = omega arith in
-        absurd never
+        let empty : part 0 0 ≡ x = cc in
+        let z : 0 ≡ r + 4 = ap (λ (y : Part). y .start) empty in
+        let none : ⊥ = omega arith in
+        absurd none
 
 pub length-namesAt : (n : ℕ) (m : List ℕ) (p : ℕ) → length (namesAt n m p) ≡ n
 length-namesAt zero m p = refl
@@ -138,13 +139,13 @@ first-nameless : {m : List ℕ} {k : Kind} (ks : List Kind) {p q : ℕ} {v : Val
 first-nameless ks (a-num {k = k} {n = n} h) s = value-nameless k n
 first-nameless ks (a-string h) s = refl
 first-nameless ks (a-bytes h) s = refl
-first-nameless ks (a-strings h t) s = never s
+first-nameless ks (a-strings h t) s = apart s
 
 rest-nameless : (k : Kind) (ks : List Kind) → noStrings (k ∷ ks) ≡ true → noStrings ks ≡ true
 rest-nameless (num k) ks h = h
 rest-nameless string ks h = h
 rest-nameless bytes ks h = h
-rest-nameless strings ks h = never h
+rest-nameless strings ks h = apart h
 
 nameless : {m : List ℕ} {ks : List Kind} {p q : ℕ} {vs : List (Value Part)} → FieldsHere m ks p vs q → noStrings ks ≡ true → namesAmong vs ≡ []
 nameless no-field s = refl

@@ -17,14 +17,15 @@ use Rattle.number.proofs.BigEndian.{length-bytesOf, bytesOf-be, be-below}
 use Rattle.number.proofs.TwosComplement.{bits-signed}
 use Rattle.text.specs.Utf8.{wellFormed}
 use Rattle.layout.specs.Kinds.{Num, u8, i8, u32, i32, u64, bool, width, Kind, num, string, bytes, strings}
-use Rattle.layout.specs.Limits.{bufferTooSmall, longest}
+use Rattle.layout.specs.Refusals.{bufferTooSmall}
+use Rattle.layout.specs.Limits.{longest}
 use Rattle.layout.specs.Table.{Side, Plan, unexpected, header, asked, plain, led, plan}
 use Rattle.layout.specs.Values.{Part, part, Value, signed, run, runs, runOf, runsOf, bytesIn, content, contents}
 use Rattle.layout.specs.Reading.{anyBytes, valueOf, Shape, unknown, known, failure, success, dataSize, accepted, read}
 use Rattle.layout.specs.Pieces.{total, sizedPieces, stringsPieces, fieldPieces, fieldsPieces, kindsOf, pieces}
-use Rattle.layout.specs.Writing.{bit, bits, sized, sizedAll, encode, encodeAll, encodeMessage, hasShape, signRight, allWellFormed, textRight, textsRight, dataLength, counts, countRight, Told, stored, Written, check, store, storeChecked, write}
+use Rattle.layout.specs.Writing.{bit, bits, sized, sizedAll, encode, encodeAll, encodeMessage, hasShape, signRight, allWellFormed, textRight, textsRight, dataLength, counts, countRight, Told, stored, WriteOutcome, check, store, storeChecked, write}
 use Rattle.layout.specs.Normal.{isBool, noBool, normal, normalAll, normalised}
-use Rattle.layout.proofs.Tests.{never, and-both}
+use Rattle.layout.proofs.Tests.{apart, and-both}
 use Rattle.layout.proofs.Agreement.{part-length, joined-parts}
 use Rattle.layout.proofs.Sizes.{total-append, strings-size, field-size, fields-size, body-size, known-size, known-inside}
 use Rattle.layout.proofs.Written.{length-sized}
@@ -133,7 +134,7 @@ normal-same : (k : Kind) (bs : List ℕ) → not (isBool k) ≡ true → normal 
 normal-same k bs h = go (isBool k) h
   where
     go : (b : Bool) → not b ≡ true → cond b (map (λ x. bit (not (eqb x 0))) bs) bs ≡ bs
-    go true h = never h
+    go true h = apart h
     go false h = refl
 
 all-same : (m : List ℕ) (ks : List Kind) (vs : List (Value Part)) (p : ℕ) → noBool ks ≡ true → normalAll ks vs m p ≡ take (total (fieldsPieces ks vs p)) (drop p m)

@@ -6,6 +6,7 @@ use Prim.Native.Nat.{ℕ, zero, suc, _+_, _≤_, _<_}
 use native.Mathlib.Nat.{zero-add, add-assoc}
 use native.Mathlib.Omega.{arith}
 use lib.ListN.{length}
+use Rattle.layout.specs.Limits.{headerSize}
 use Rattle.layout.specs.Kinds.{Kind}
 use Rattle.layout.specs.Table.{Side, Plan, plan}
 use Rattle.layout.specs.Values.{Part, part, Value}
@@ -81,5 +82,5 @@ module _ {side : Side} {m : List ℕ} {s : Shape} {i t k : ℕ} {vs : List (Valu
   pub known-inside : k ≤ length m
   known-inside = body-inside (h .rest) (h .type .fits)
 
-  pub known-header : 5 ≤ k
+  pub known-header : headerSize ≤ k
   known-header = omega (arith, body-size (h .rest))

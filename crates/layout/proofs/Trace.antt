@@ -14,11 +14,12 @@ use Rattle.number.specs.TwosComplement.{signedOf}
 use Rattle.text.specs.Utf8.{wellFormed}
 use Rattle.layout.proofs.Tests.{apart}
 use Rattle.layout.specs.Kinds.{Num, width, Kind, num, string, bytes, strings}
-use Rattle.layout.specs.Limits
-use Rattle.layout.specs.Limits.{malformedText, dataLengthMismatch, longest}
+use Rattle.layout.specs.Refusals
+use Rattle.layout.specs.Refusals.{malformedText, dataLengthMismatch}
+use Rattle.layout.specs.Limits.{headerSize, longest}
 use Rattle.layout.specs.Table.{Side, Plan, unexpected, header, asked, plain, led, plan}
 use Rattle.layout.specs.Values.{Part, part, Value, signed, run, runs}
-use Rattle.layout.specs.Reading.{Outcome, got, fail, Reader, followed, seq, mapped, numOutcome, numAt, runAt, sizedAt, anyBytes, stringAt, bytesAt, stringsAt, valueOf, fieldAt, fieldsAt, Shape, unknown, known, failure, success, Body, body, dataSize, succeeded, behindResult, bodyAt, Message, message, messageAt, Answer, refused, accepted, answer, read}
+use Rattle.layout.specs.Reading.{Outcome, got, fail, Reader, followed, seq, mapped, numOutcome, numAt, runAt, sizedAt, anyBytes, stringAt, bytesAt, stringsAt, valueOf, fieldAt, fieldsAt, Shape, unknown, known, failure, success, Body, body, dataSize, succeeded, behindResult, resultPlace, bodyAt, Message, message, messageAt, Answer, refused, accepted, answer, read}
 
 -- ---- the relation
 
@@ -72,7 +73,7 @@ pub record MessageHere (side : Side) (m : List ℕ) (s : Shape) (i t : ℕ) (vs 
   pub short : length m ≤ longest
   pub id : NumHere 4 m 0 i
   pub type : NumHere 1 m 4 t
-  pub rest : BodyHere m (plan side t) 5 s vs k
+  pub rest : BodyHere m (plan side t) headerSize s vs k
 
 -- ---- what the relation holds of is read
 
@@ -117,7 +118,7 @@ pub message-reads : {side : Side} {m : List ℕ} {s : Shape} {i t k : ℕ} {vs :
     → read side m ≡ accepted s i t vs k
 unfolding read messageAt
 message-reads {m = m} h =
-    rw (le-ltb (length m) 5 (h .type .fits), le-ltb longest (length m) (h .short), num-reads (h .id), num-reads (h .type), body-reads (h .rest))
+    rw (le-ltb (length m) headerSize (h .type .fits), le-ltb longest (length m) (h .short), num-reads (h .id), num-reads (h .type), body-reads (h .rest))
 
 -- ---- and what is read, the relation holds of
 
@@ -130,7 +131,7 @@ record Middle {A B : Type 0} (o : Outcome A) (k : A → ℕ → Outcome B) (b : 
 
 middle : {A B : Type 0} (o : Outcome A) (k : A → ℕ → Outcome B) {b : B} {q : ℕ} → followed o k ≡ got b q → Middle o k b q
 middle (got a r) k e = record { value = a; at = r; first = refl; second = e }
-middle (fail n p) k e = let z : _≡_ {A = ℕ} 0 1 = cc in apart z
+middle (fail n p) k e = let z : false ≡ true = cc in apart z
 
 -- what came of a reader whose value is mapped
 record Unmapped {A B : Type 0} (f : A → B) (o : Outcome A) (b : B) (q : ℕ) : Type 0 where
@@ -140,12 +141,12 @@ record Unmapped {A B : Type 0} (f : A → B) (o : Outcome A) (b : B) (q : ℕ) :
 
 unmapped : {A B : Type 0} (f : A → B) (o : Outcome A) {b : B} {q : ℕ} → followed o (λ a r. got (f a) r) ≡ got b q → Unmapped f o b q
 unmapped f (got a r) e = record { value = a; first = ap (got a) (cc); is = cc }
-unmapped f (fail n p) e = let z : _≡_ {A = ℕ} 0 1 = cc in apart z
+unmapped f (fail n p) e = let z : false ≡ true = cc in apart z
 
 -- a test that was passed
 passed : {A : Type 0} (t : Bool) (x : Outcome A) (n c : ℕ) {a : A} {q : ℕ} → cond t x (fail n c) ≡ got a q → (t ≡ true) × (x ≡ got a q)
 passed true x n c e = (refl, e)
-passed false x n c e = let z : _≡_ {A = ℕ} 0 1 = cc in apart z
+passed false x n c e = let z : false ≡ true = cc in apart z
 
 -- the same body at the same place
 same-body : {s s′ : Shape} {vs vs′ : List (Value Part)} {q q′ : ℕ} → got (body s vs) q ≡ got (body s′ vs′) q′ → (s′ ≡ s) × (vs′ ≡ vs) × (q′ ≡ q)
@@ -158,7 +159,7 @@ counted : (m : List ℕ) (c : Bool) (r : ℕ) (ws : List (Value Part)) (p : ℕ)
     → Counted c r ws × (s ≡ success) × (vs ≡ signed (pos r) ∷ ws) × (q ≡ p)
 counted m false r ws p e = let b = same-body e in (tt, b .0, b .1, b .2)
 counted m true r ws p e =
-    let h = passed (eqb r (dataSize ws)) (got (body success (signed (pos r) ∷ ws)) p) dataLengthMismatch 5 e in
+    let h = passed (eqb r (dataSize ws)) (got (body success (signed (pos r) ∷ ws)) p) dataLengthMismatch resultPlace e in
     let b = same-body (h .1) in
     (eqb-true r (dataSize ws) (h .0), b .0, b .1, b .2)
 
@@ -170,13 +171,13 @@ module _ {m : List ℕ} where
       go : (t : Bool) → leb (p + w) (length m) ≡ t → numOutcome w p (cond t (whole (be (take w (drop p m)))) truncated) ≡ got n q
           → NumHere w m p n × (q ≡ p + w)
       go true h e = (record { fits = leb-true (p + w) (length m) h; is = cc }, cc)
-      go false h e = let z : _≡_ {A = ℕ} 0 1 = cc in apart z
+      go false h e = let z : false ≡ true = cc in apart z
 
   run-traced : {valid : List ℕ → Bool} {n p : ℕ} {x : Part} {q : ℕ} → runAt valid n m p ≡ got x q
       → RunHere valid m p n × (x ≡ part p n) × (q ≡ p + n)
   unfolding runAt
   run-traced {valid} {n} {p} e =
-      let h = passed (leb (p + n) (length m)) (cond (valid (take n (drop p m))) (got (part p n) (p + n)) (fail malformedText p)) Limits.truncated p e in
+      let h = passed (leb (p + n) (length m)) (cond (valid (take n (drop p m))) (got (part p n) (p + n)) (fail malformedText p)) Refusals.truncated p e in
       let g = passed (valid (take n (drop p m))) (got (part p n) (p + n)) malformedText p (h .1) in
       (record { fits = leb-true (p + n) (length m) (h .0); good = g .0 }, cc (g .1), cc (g .1))
 
@@ -249,7 +250,7 @@ module _ {m : List ℕ} where
       from h t is = rw is (a-field-more h t)
 
   body-traced : (pl : Plan) (p : ℕ) {s : Shape} {vs : List (Value Part)} {q : ℕ} → bodyAt pl m p ≡ got (body s vs) q → BodyHere m pl p s vs q
-  body-traced unexpected p e = let z : _≡_ {A = ℕ} 0 1 = cc in apart z
+  body-traced unexpected p e = let z : false ≡ true = cc in apart z
   body-traced header p {s} {vs} {q} e =
       let b = same-body e in
       rw (b .0, b .1, b .2) header-only
@@ -292,7 +293,7 @@ answered (got x q) {s} {i} {t} {vs} {k} e =
     let ev : x .body .values ≡ vs = cc in
     let ek : q ≡ k = cc in
     λ d. got (message (ei d) (et d) (body (es d) (ev d))) (ek d)
-answered (fail n p) e = let z : _≡_ {A = ℕ} 0 1 = cc in apart z
+answered (fail n p) e = let z : false ≡ true = cc in apart z
 
 inner-traced : (side : Side) {m : List ℕ} {s : Shape} {i t : ℕ} {vs : List (Value Part)} {k : ℕ} → length m ≤ longest
     → messageAt side m 0 ≡ got (message i t (body s vs)) k → MessageHere side m s i t vs k
@@ -308,19 +309,19 @@ inner-traced side {m} {s} {i} {t} {vs} {k} l e =
     from : {i′ t′ c d : ℕ} {b : Body} → NumHere 4 m 0 i′ → c ≡ 0 + 4 → NumHere 1 m c t′ → d ≡ c + 1 → bodyAt (plan side t′) m d ≡ got b k
         → i ≡ i′ → t ≡ t′ → body s vs ≡ b → MessageHere side m s i t vs k
     from {i′} {t′} {c} {d} {b} h ec g ed e ei et eb =
-        let five : d ≡ 5 = omega arith in
+        let behind : d ≡ headerSize = omega arith in
         let four : c ≡ 4 = omega arith in
-        let e′ : bodyAt (plan side t′) m 5 ≡ got (body s vs) k = rw (five, ← eb) at e in
-        rw (ei, et) (record { short = l; id = h; type = rw four at g; rest = body-traced (plan side t′) 5 e′ })
+        let e′ : bodyAt (plan side t′) m headerSize ≡ got (body s vs) k = rw (behind, ← eb) at e in
+        rw (ei, et) (record { short = l; id = h; type = rw four at g; rest = body-traced (plan side t′) headerSize e′ })
 
 pub message-traced : {side : Side} {m : List ℕ} {s : Shape} {i t : ℕ} {vs : List (Value Part)} {k : ℕ} → read side m ≡ accepted s i t vs k → MessageHere side m s i t vs k
 unfolding read
-message-traced {side} {m} {s} {i} {t} {vs} {k} e = first (ltb (length m) 5) e
+message-traced {side} {m} {s} {i} {t} {vs} {k} e = first (ltb (length m) headerSize) e
   where
     second : (b : Bool) → ltb longest (length m) ≡ b → cond b (refused 2 0) (answer (messageAt side m 0)) ≡ accepted s i t vs k → MessageHere side m s i t vs k
-    second true f e = let z : _≡_ {A = ℕ} 0 1 = cc in apart z
+    second true f e = let z : false ≡ true = cc in apart z
     second false f e = inner-traced side (ltb-false longest (length m) f) (answered (messageAt side m 0) e)
 
     first : (b : Bool) → cond b (refused 1 0) (cond (ltb longest (length m)) (refused 2 0) (answer (messageAt side m 0))) ≡ accepted s i t vs k → MessageHere side m s i t vs k
-    first true e = let z : _≡_ {A = ℕ} 0 1 = cc in apart z
+    first true e = let z : false ≡ true = cc in apart z
     first false e = second (ltb longest (length m)) refl e

@@ -16,13 +16,14 @@ use Rattle.number.proofs.BigEndian.{length-bytesOf, be-bytesOf}
 use Rattle.number.proofs.TwosComplement.{signed-bits, bits-below}
 use Rattle.text.specs.Utf8.{wellFormed}
 use Rattle.layout.specs.Kinds.{Num, u8, i8, u32, i32, u64, bool, width, Kind, num, string, bytes, strings}
-use Rattle.layout.specs.Limits.{oversize, unexpectedType, malformedText, dataLengthMismatch, bufferTooSmall, resultSign, lengthsMismatch, longest}
+use Rattle.layout.specs.Refusals.{oversize, unexpectedType, malformedText, dataLengthMismatch, bufferTooSmall, resultSign, lengthsMismatch}
+use Rattle.layout.specs.Limits.{headerSize, longest}
 use Rattle.layout.specs.Table.{Side, Plan, unexpected, header, asked, plain, led, plan}
 use Rattle.layout.specs.Values.{Part, part, Value, number, signed, truth, run, runs, runOf, runsOf, bytesIn, content, contents, NumFits, fits-u8, fits-u32, fits-u64, fits-i8, fits-i32, fits-bool, Fits, fits-num, fits-string, fits-bytes, fits-strings, AllFit, none, more}
 use Rattle.layout.specs.Reading.{anyBytes, valueOf, Shape, unknown, known, failure, success, dataSize, accepted, read}
 use Rattle.layout.specs.Pieces.{kindsOf}
-use Rattle.layout.specs.Writing.{bit, bits, sized, sizedAll, encode, encodeAll, encodeMessage, hasShape, negative, signRight, allWellFormed, textRight, textsRight, dataLength, counts, countRight, Told, stored, refused, Written, check, refuse, store, storeChecked, write}
-use Rattle.layout.proofs.Tests.{apart, never, and-both}
+use Rattle.layout.specs.Writing.{bit, bits, sized, sizedAll, encode, encodeAll, encodeMessage, hasShape, negative, signRight, allWellFormed, textRight, textsRight, dataLength, counts, countRight, Told, stored, refused, WriteOutcome, check, refuse, store, storeChecked, write}
+use Rattle.layout.proofs.Tests.{apart, apart, and-both}
 use Rattle.layout.proofs.Agreement.{part-length}
 use Rattle.layout.proofs.Trace.{NumHere, RunHere, SizedHere, sized-here, StringsHere, no-string, a-string-more, FieldHere, a-num, a-string, a-bytes, a-strings, FieldsHere, no-field, a-field-more, Counted, BodyHere, header-only, an-asked, a-plain, a-failure, a-success, MessageHere, message-reads}
 
@@ -239,7 +240,7 @@ module _ {m : List ℕ} (short : length m ≤ longest) where
         here = subst (λ (q : ℕ). BodyHere m (led e ks) p failure (signed (negsuc x) ∷ []) q) (sym (add-zero (p + 4)) ∙ r .3) (a-failure (r .0) (r .1));
         says = refl;
       }
-  body-back (led e ks) failure (more (fits-num (fits-i32 {z = pos x} f)) none) a b c d p t = never b
+  body-back (led e ks) failure (more (fits-num (fits-i32 {z = pos x} f)) none) a b c d p t = apart b
   body-back (led e ks) success (more {vs = vs} (fits-num (fits-i32 {z = pos x} f)) fs) a b c d p t =
       let r = result-back {z = pos x} p (encodeAll ks vs) f t in
       let g = fields-back fs c (p + 4) (r .2) in
@@ -249,19 +250,19 @@ module _ {m : List ℕ} (short : length m ≤ longest) where
             (a-success (r .0) (r .1) (g .here) (counts-back e ks x vs (g .values) (g .size) d));
         says = ap₂ _∷_ refl (g .says);
       }
-  body-back (led e ks) success (more (fits-num (fits-i32 {z = negsuc x} f)) fs) a b c d p t = never b
-  body-back unexpected s f a b c d p t = never a
-  body-back header known f a b c d p t = never a
-  body-back header failure f a b c d p t = never a
-  body-back header success f a b c d p t = never a
-  body-back (asked ks) unknown f a b c d p t = never a
-  body-back (asked ks) failure f a b c d p t = never a
-  body-back (asked ks) success f a b c d p t = never a
-  body-back (plain ks) unknown f a b c d p t = never a
-  body-back (plain ks) known f a b c d p t = never a
-  body-back (plain ks) failure f a b c d p t = never a
-  body-back (led e ks) unknown f a b c d p t = never a
-  body-back (led e ks) known f a b c d p t = never a
+  body-back (led e ks) success (more (fits-num (fits-i32 {z = negsuc x} f)) fs) a b c d p t = apart b
+  body-back unexpected s f a b c d p t = apart a
+  body-back header known f a b c d p t = apart a
+  body-back header failure f a b c d p t = apart a
+  body-back header success f a b c d p t = apart a
+  body-back (asked ks) unknown f a b c d p t = apart a
+  body-back (asked ks) failure f a b c d p t = apart a
+  body-back (asked ks) success f a b c d p t = apart a
+  body-back (plain ks) unknown f a b c d p t = apart a
+  body-back (plain ks) known f a b c d p t = apart a
+  body-back (plain ks) failure f a b c d p t = apart a
+  body-back (led e ks) unknown f a b c d p t = apart a
+  body-back (led e ks) known f a b c d p t = apart a
 
 -- ---- a message
 
@@ -285,16 +286,16 @@ module _ (side : Side) (s : Shape) (i t : ℕ) (vs : List (Value (List ℕ))) (s
       let x = stands-split {m = m} {p = 0} (bytesOf 4 i) (bytesOf 1 t ++ e) (stands-whole m) in
       let at4 : Stands (bytesOf 1 t ++ e) m 4 = subst (λ (p : ℕ). Stands (bytesOf 1 t ++ e) m p) (omega arith) (x .1) in
       let y = stands-split {m = m} {p = 4} (bytesOf 1 t) e at4 in
-      let at5 : Stands e m 5 = subst (λ (p : ℕ). Stands e m p) (omega arith) (y .1) in
-      let r = body-back l (plan side t) s fit a b c d 5 at5 in
-      let end : 5 + length e ≡ length m = omega (arith, length-append (bytesOf 4 i) (bytesOf 1 t ++ e), length-append (bytesOf 1 t) e) in
+      let behind : Stands e m headerSize = subst (λ (p : ℕ). Stands e m p) (omega arith) (y .1) in
+      let r = body-back l (plan side t) s fit a b c d headerSize behind in
+      let end : headerSize + length e ≡ length m = omega (arith, length-append (bytesOf 4 i) (bytesOf 1 t ++ e), length-append (bytesOf 1 t) e) in
       record {
         values = r .values;
         reads = message-reads (record {
           short = l;
           id = num-stands 4 i small-id (x .0);
           type = num-stands 1 t small-type (y .0);
-          rest = subst (λ (q : ℕ). BodyHere m (plan side t) 5 s (r .values) q) end (r .here);
+          rest = subst (λ (q : ℕ). BodyHere m (plan side t) headerSize s (r .values) q) end (r .here);
         });
         says = r .says;
       }
@@ -302,9 +303,9 @@ module _ (side : Side) (s : Shape) (i t : ℕ) (vs : List (Value (List ℕ))) (s
 -- ---- a writer that finished, and one that refused
 
 -- a check that was passed
-passed : (c : ℕ) (b : Bool) (out : List ℕ) (w : Written) {n : ℕ} → check c b out w .told ≡ stored n → (b ≡ true) × (w .told ≡ stored n) × (check c b out w .buffer ≡ w .buffer)
+passed : (c : ℕ) (b : Bool) (out : List ℕ) (w : WriteOutcome) {n : ℕ} → check c b out w .told ≡ stored n → (b ≡ true) × (w .told ≡ stored n) × (check c b out w .buffer ≡ w .buffer)
 passed c true out w h = (refl, h, refl)
-passed c false out w h = let z : _≡_ {A = ℕ} 0 1 = cc in apart z
+passed c false out w h = let z : false ≡ true = cc in apart z
 
 -- the bytes e are in front of what stays of the buffer
 pub record Finished (e out : List ℕ) (n : ℕ) (after : List ℕ) : Type 0 where
@@ -316,7 +317,7 @@ pub record Finished (e out : List ℕ) (n : ℕ) (after : List ℕ) : Type 0 whe
 pub store-finished : (e out : List ℕ) {n : ℕ} → storeChecked e out .told ≡ stored n → Finished e out n (storeChecked e out .buffer)
 unfolding storeChecked
 store-finished e out {n} h =
-    let inner : Written = check bufferTooSmall (leb (length e) (length out)) out (store e out) in
+    let inner : WriteOutcome = check bufferTooSmall (leb (length e) (length out)) out (store e out) in
     let a = passed oversize (leb (length e) longest) out inner h in
     let b = passed bufferTooSmall (leb (length e) (length out)) out (store e out) (a .1) in
     let size : n ≡ length e = cc (b .1) in
@@ -340,11 +341,11 @@ module _ (side : Side) (s : Shape) (i t : ℕ) (vs : List (Value (List ℕ))) (s
   pub write-finished : {n : ℕ} → write side s i t vs summed out .told ≡ stored n → Wrote n
   unfolding write
   write-finished h =
-      let w5 : Written = storeChecked (encodeMessage side s i t vs) out in
-      let w4 : Written = check dataLengthMismatch (countRight (plan side t) s vs) out w5 in
-      let w3 : Written = check malformedText (textsRight (kindsOf (plan side t) s) vs) out w4 in
-      let w2 : Written = check lengthsMismatch summed out w3 in
-      let w1 : Written = check resultSign (signRight (plan side t) s vs) out w2 in
+      let w5 : WriteOutcome = storeChecked (encodeMessage side s i t vs) out in
+      let w4 : WriteOutcome = check dataLengthMismatch (countRight (plan side t) s vs) out w5 in
+      let w3 : WriteOutcome = check malformedText (textsRight (kindsOf (plan side t) s) vs) out w4 in
+      let w2 : WriteOutcome = check lengthsMismatch summed out w3 in
+      let w1 : WriteOutcome = check resultSign (signRight (plan side t) s vs) out w2 in
       let a = passed unexpectedType (hasShape (plan side t) s) out w1 h in
       let b = passed resultSign (signRight (plan side t) s vs) out w2 (a .1) in
       let c = passed lengthsMismatch summed out w3 (b .1) in
@@ -372,15 +373,15 @@ module _ (side : Side) (s : Shape) (i t : ℕ) (vs : List (Value (List ℕ))) (s
       (encoded-back side s i t vs hi ht fit (w .shape) (w .sign) (w .texts) (w .count) (w .finished .small))
 
 -- where it refuses, the place is 0 and the buffer as it was
-pub record Untouched (out : List ℕ) (w : Written) : Type 0 where
+pub record Untouched (out : List ℕ) (w : WriteOutcome) : Type 0 where
   pub keeps : {n p : ℕ} → w .told ≡ refused n p → (p ≡ 0) × (w .buffer ≡ out)
 
-check-untouched : {out : List ℕ} {w : Written} (c : ℕ) (b : Bool) → Untouched out w → Untouched out (check c b out w)
+check-untouched : {out : List ℕ} {w : WriteOutcome} (c : ℕ) (b : Bool) → Untouched out w → Untouched out (check c b out w)
 check-untouched c true u = u
 check-untouched c false u = record { keeps = λ h. (cc, refl) }
 
 store-untouched : (e out : List ℕ) → Untouched out (store e out)
-store-untouched e out = record { keeps = λ h. let z : _≡_ {A = ℕ} 0 1 = cc in apart z }
+store-untouched e out = record { keeps = λ h. let z : false ≡ true = cc in apart z }
 
 pub write-untouched : (side : Side) (s : Shape) (i t : ℕ) (vs : List (Value (List ℕ))) (summed : Bool) (out : List ℕ) → Untouched out (write side s i t vs summed out)
 unfolding write storeChecked

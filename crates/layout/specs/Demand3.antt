@@ -6,17 +6,18 @@ use mathlib.Core.List.{List, [], _++_, map}
 use lib.Dec.{ltb}
 use lib.ListN.{length, take, drop}
 use Rattle.method.specs.Methods.{unknown as no-method, ofRequest}
-use Rattle.layout.specs.Limits.{truncatedHeader, headerSize, longest}
+use Rattle.layout.specs.Refusals.{truncatedHeader}
+use Rattle.layout.specs.Limits.{headerSize, longest}
 use Rattle.layout.specs.Table.{Side, request, reply}
 use Rattle.layout.specs.Values.{Part, Value, bytesIn, contents}
 use Rattle.layout.specs.Reading.{Shape, accepted, read}
 use Rattle.layout.specs.Pieces.{total, pieces, cutAnswer, Agree}
 use Rattle.layout.specs.Names.{opened, steps}
-use Rattle.layout.specs.Front.{idOf, typeOf, unknownReply, invalidReply, Call, refuse, reply-with, stored, Fronted, done, settle, front}
+use Rattle.layout.specs.Front.{idOf, typeOf, unknownReply, invalidReply, Call, refuse-with, reply-with, stored, FrontOutcome, done, settle, front}
 
 -- what the front does with the first j bytes of a request: a truncated header, or invalid
 abbrev pub cutCall : ℕ → ℕ → ℕ → Call
-cutCall j i t = cond (ltb j headerSize) (refuse truncatedHeader) (reply-with (invalidReply i t))
+cutCall j i t = cond (ltb j headerSize) (refuse-with truncatedHeader) (reply-with (invalidReply i t))
 
 -- what the message m keeps, that was accepted with these values and this known length
 pub record Kept (side : Side) (m : List ℕ) (s : Shape) (i t : ℕ) (vs : List (Value Part)) (known : ℕ) : Type 0 where

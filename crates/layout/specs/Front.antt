@@ -8,7 +8,7 @@ use lib.ListN.{length, take, drop}
 use Rattle.number.specs.BigEndian.{be, bytesOf}
 use Rattle.number.specs.TwosComplement.{bitsOf}
 use Rattle.method.specs.Methods.{replyOffset}
-use Rattle.layout.specs.Limits.{truncatedHeader, oversize, bufferTooSmall}
+use Rattle.layout.specs.Refusals.{truncatedHeader, oversize, bufferTooSmall}
 use Rattle.layout.specs.Table.{request, unknownResponse}
 use Rattle.layout.specs.Reading.{Shape, unknown, known, failure, success, Answer, refused as not-read, accepted, read}
 
@@ -34,12 +34,12 @@ invalidReply i t = bytesOf 4 i ++ (bytesOf 1 (t + replyOffset) ++ bytesOf 4 (bit
 -- what a request calls for: it is handed on, refused, or answered with these bytes
 pub data Call : Type 0 where
   hand-on : Call
-  refuse : ℕ → Call
+  refuse-with : ℕ → Call
   reply-with : List ℕ → Call
 
 abbrev pub called : List ℕ → Answer → Call
 called m (not-read n p) =
-    cond (eqb n truncatedHeader) (refuse truncatedHeader)
+    cond (eqb n truncatedHeader) (refuse-with truncatedHeader)
     (cond (eqb n oversize) (reply-with (unknownReply (idOf m))) (reply-with (invalidReply (idOf m) (typeOf m))))
 called m (accepted unknown i t vs k) = reply-with (unknownReply (idOf m))
 called m (accepted known i t vs k) = hand-on
@@ -54,19 +54,19 @@ pub data Act : Type 0 where
   refused : ℕ → ℕ → Act
 
 -- and the lent buffer afterwards
-pub record Fronted : Type 0 where
+pub record FrontOutcome : Type 0 where
   pub act : Act
   pub buffer : List ℕ
 
-abbrev pub done : Act → List ℕ → Fronted
+abbrev pub done : Act → List ℕ → FrontOutcome
 done a out = record { act = a; buffer = out }
 
 -- a refusal, at place 0, changes nothing; otherwise the bytes stand in front of what stays of the buffer
-abbrev pub settle : Call → List ℕ → Fronted
+abbrev pub settle : Call → List ℕ → FrontOutcome
 settle hand-on out = done handed-on out
-settle (refuse n) out = done (refused n 0) out
+settle (refuse-with n) out = done (refused n 0) out
 settle (reply-with bs) out =
     cond (leb (length bs) (length out)) (done (stored (length bs)) (bs ++ drop (length bs) out)) (done (refused bufferTooSmall 0) out)
 
-unfoldable pub front : List ℕ → List ℕ → Fronted
+unfoldable pub front : List ℕ → List ℕ → FrontOutcome
 front m out = settle (called m (read request m)) out

@@ -4,8 +4,8 @@ use Prim.Native.Nat.{ℕ}
 use mathlib.Core.Path.{_≡_}
 use mathlib.Core.List.{List}
 use lib.ListN.{length, take, drop}
-use Rattle.layout.specs.Writing.{lengthOf, Written}
-use Rattle.layout.specs.Front.{Act, handed-on, stored, refused, Fronted}
+use Rattle.layout.specs.Writing.{lengthOf, WriteOutcome}
+use Rattle.layout.specs.Front.{Act, handed-on, stored, refused, FrontOutcome}
 
 -- w takes the buffer as it was lent to an outcome: `answer` is what is told of it, `reported` how many bytes that answer claims, and `buffer`
 -- the buffer afterwards
@@ -17,8 +17,8 @@ pub record Isolated {W A : Type 0} (answer : W → A) (reported : A → ℕ) (bu
   pub rest : (a : List ℕ) → drop (reported (answer (w a))) (buffer (w a)) ≡ drop (reported (answer (w a))) a
 
 -- a writer: of requests and replies, and the lister
-abbrev pub WriterIsolated : (List ℕ → Written) → Type 0
-WriterIsolated w = Isolated (λ (x : Written). x .told) lengthOf (λ (x : Written). x .buffer) w
+abbrev pub WriterIsolated : (List ℕ → WriteOutcome) → Type 0
+WriterIsolated w = Isolated (λ (x : WriteOutcome). x .told) lengthOf (λ (x : WriteOutcome). x .buffer) w
 
 -- the length that a front reports: 0 where it stored nothing
 abbrev pub actLength : Act → ℕ
@@ -26,8 +26,8 @@ actLength handed-on = 0
 actLength (stored n) = n
 actLength (refused n p) = 0
 
-abbrev pub FrontIsolated : (List ℕ → Fronted) → Type 0
-FrontIsolated w = Isolated (λ (x : Fronted). x .act) actLength (λ (x : Fronted). x .buffer) w
+abbrev pub FrontIsolated : (List ℕ → FrontOutcome) → Type 0
+FrontIsolated w = Isolated (λ (x : FrontOutcome). x .act) actLength (λ (x : FrontOutcome). x .buffer) w
 
 -- the same of two runs: on the buffers a and b, which became a′ and b′, they answered x and y
 pub record Apart {A : Type 0} {B : Type 0} (reported : A → ℕ) (x y : A) (a b a′ b′ : List B) : Type 0 where

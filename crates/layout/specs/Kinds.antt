@@ -36,6 +36,10 @@ kinds fs = map (λ f. f .kind) fs
 abbrev timestamp : String → String → List Field
 timestamp seconds nsec = seconds is num u64 ∷ nsec is num u32 ∷ []
 
+-- the kinds of a timestamp's members
+abbrev pub timeKinds : List Kind
+timeKinds = kinds (timestamp "seconds" "nsec")
+
 abbrev pub atime : List Field
 atime = timestamp "atime" "atime.nsec"
 

@@ -8,6 +8,7 @@ pub mod Normal
 pub mod Parts
 pub mod Pieces
 pub mod Reading
+pub mod Refusals
 pub mod Table
 pub mod Values
 pub mod Worked

@@ -1,41 +1,5 @@
--- The numbers of refusal of document 01, and the longest message. The word in brackets is document 01's.
+-- The sizes that bound a message: its header, and the longest message.
 use Prim.Native.Nat.{ℕ}
-
--- (runt) fewer than the header's bytes
-abbrev pub truncatedHeader : ℕ
-truncatedHeader = 1
-
--- (over-long) more bytes than the longest message, read or to be written
-abbrev pub oversize : ℕ
-oversize = 2
-
--- (stray) a type that no such message has
-abbrev pub unexpectedType : ℕ
-unexpectedType = 3
-
--- (short) a number or a run that does not fit
-abbrev pub truncated : ℕ
-truncated = 4
-
--- (text) a string that is not well-formed
-abbrev pub malformedText : ℕ
-malformedText = 5
-
--- (tally) a read reply whose result is not the length of its data
-abbrev pub dataLengthMismatch : ℕ
-dataLengthMismatch = 6
-
--- (room) a lent buffer that is shorter than what is to be written
-abbrev pub bufferTooSmall : ℕ
-bufferTooSmall = 7
-
--- (sign) a failure without a negative code, or a success with one
-abbrev pub resultSign : ℕ
-resultSign = 8
-
--- (list) lengths of names that do not sum to their run
-abbrev pub lengthsMismatch : ℕ
-lengthsMismatch = 9
 
 -- the bytes of the header: id and type
 abbrev pub headerSize : ℕ

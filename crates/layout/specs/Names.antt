@@ -1,10 +1,11 @@
 -- The names iterator over a readdir reply (document 01: walker).
-use Prim.Native.Nat.{ℕ, zero, suc}
+use Prim.Native.Nat.{ℕ, zero, suc, _+_}
 use mathlib.Core.List.{List, [], _∷_}
 use lib.ListN.{length}
+use Rattle.layout.specs.Kinds.{u32, width}
 use Rattle.layout.specs.Table.{reply}
 use Rattle.layout.specs.Values.{Part, part, Value, runsOf}
-use Rattle.layout.specs.Reading.{Outcome, got, fail, Answer, refused, accepted, read, bytesAt}
+use Rattle.layout.specs.Reading.{Outcome, got, fail, fieldsPlace, Answer, refused, accepted, read, bytesAt}
 
 -- names stand right behind a result
 abbrev pub namesAmong : List (Value Part) → List Part
@@ -27,7 +28,7 @@ position p n = record { at = p; left = n }
 
 -- behind header, result and count
 abbrev pub firstName : ℕ
-firstName = 13
+firstName = fieldsPlace + width u32
 
 -- the start on any message
 unfoldable pub opened : List ℕ → Position

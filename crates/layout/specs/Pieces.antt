@@ -6,7 +6,8 @@ use mathlib.Core.List.{List, [], _∷_, _++_}
 use lib.Dec.{leb, ltb}
 use lib.ListN.{length, take}
 use Rattle.layout.specs.Kinds.{i32, width, Kind, num, string, bytes, strings}
-use Rattle.layout.specs.Limits.{truncatedHeader, truncated, headerSize}
+use Rattle.layout.specs.Refusals.{truncatedHeader, truncated}
+use Rattle.layout.specs.Limits.{headerSize}
 use Rattle.layout.specs.Table.{Side, Plan, unexpected, header, asked, plain, led, plan}
 use Rattle.layout.specs.Values.{Part, part, Value, runOf, runsOf}
 use Rattle.layout.specs.Reading.{Shape, unknown, known, failure, success, Answer, refused}

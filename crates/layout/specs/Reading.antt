@@ -9,7 +9,8 @@ use Rattle.number.specs.BigEndian.{Found, whole, truncated as too-few, numberAt
 use Rattle.number.specs.TwosComplement.{signedOf}
 use Rattle.text.specs.Utf8.{wellFormed}
 use Rattle.layout.specs.Kinds.{Num, u8, i8, u32, i32, u64, bool, width, Kind, num, string, bytes, strings}
-use Rattle.layout.specs.Limits.{truncatedHeader, oversize, unexpectedType, truncated, malformedText, dataLengthMismatch, headerSize, longest}
+use Rattle.layout.specs.Refusals.{truncatedHeader, oversize, unexpectedType, truncated, malformedText, dataLengthMismatch}
+use Rattle.layout.specs.Limits.{headerSize, longest}
 use Rattle.layout.specs.Table.{Side, Plan, unexpected, header, asked, plain, led, plan}
 use Rattle.layout.specs.Values.{Part, part, Value, number, signed, truth, run, runs, runOf}
 
@@ -56,6 +57,11 @@ sizedAt valid = seq (numAt 4) (λ n. runAt valid n)
 
 abbrev pub anyBytes : List ℕ → Bool
 anyBytes bs = true
+
+-- the test of a run's bytes: those of text are well-formed
+abbrev pub validBy : Bool → List ℕ → Bool
+validBy true bs = wellFormed bs
+validBy false bs = anyBytes bs
 
 abbrev pub stringAt : Reader Part
 stringAt = sizedAt wellFormed
@@ -107,6 +113,10 @@ dataSize (v ∷ vs) = runOf (part 0 0) v .size
 -- where the result of a reply stands
 abbrev pub resultPlace : ℕ
 resultPlace = headerSize
+
+-- where the fields behind it begin
+abbrev pub fieldsPlace : ℕ
+fieldsPlace = resultPlace + width i32
 
 -- a success; where the result counts the data, it is compared when the data is whole
 abbrev pub succeeded : Bool → ℕ → List (Value Part) → Reader Body

@@ -1,11 +1,11 @@
 -- The table of document 01, "Messages": the fields of each method's request and reply; and what follows the header of a type.
-use Prim.Native.Nat.{ℕ}
+use Prim.Native.Nat.{ℕ, _≤_}
 use mathlib.Core.Bool.{Bool, true, false, cond}
 use mathlib.Core.List.{List, [], _∷_, _++_}
 use lib.Dec.{eqb}
 use Rattle.method.specs.declared.Method.{Method}
 use Rattle.method.specs.declared.Method.the-variants.{Access, Getattr, Readlink, Symlink, Link, Rename, Chmod, Chown, Truncate, Fsync, Open, Mknod, Create, Release, Unlink, Read, Write, Mkdir, Readdir, Rmdir, Statfs, Utimens, Getcreds}
-use Rattle.method.specs.Methods.{Found, found, unknown as no-method, ofRequest, ofReply}
+use Rattle.method.specs.Methods.{requestNumber, replyNumber, Found, found, unknown as no-method, ofRequest, ofReply}
 use Rattle.layout.specs.Kinds.{Num, u8, i8, u32, i32, u64, bool, Kind, num, string, bytes, strings, Field, _is_, kinds, atime, mtime, attributes, statistics}
 
 infix 50 _gets_
@@ -87,6 +87,14 @@ abbrev pub planOf : Reply → Plan
 planOf (result fs) = led false (kinds fs)
 planOf (counted fs) = led true (kinds fs)
 planOf (bare fs) = plain (kinds fs)
+
+-- the types of the replies that have a result
+abbrev pub HasResult : ℕ → Type 0
+HasResult t = (replyNumber Access ≤ t) × (t ≤ replyNumber Utimens)
+
+-- the types of the requests that have fields
+abbrev pub HasFields : ℕ → Type 0
+HasFields t = (requestNumber Access ≤ t) × (t ≤ requestNumber Utimens)
 
 abbrev pub replyPlan : Found → Plan
 replyPlan (found m) = planOf (row m .reply)

@@ -6,19 +6,19 @@ use lib.ListN.{length, replicate}
 use Rattle.layout.specs.Table.{Side, request, reply}
 use Rattle.layout.specs.Values.{part, signed, run}
 use Rattle.layout.specs.Reading.{unknown, known, failure, success, Answer, refused, accepted, read}
-use Rattle.layout.specs.Front.{Fronted, done, stored, front}
+use Rattle.layout.specs.Front.{FrontOutcome, done, stored, front}
 
 -- what a row gives: the reader's answer, and where the row has it the front's act with a buffer
-pub data Outcome : Type 0 where
-  reads : Answer → Outcome
-  fronts : Answer → Fronted → Outcome
+pub data RowOutcome : Type 0 where
+  reads : Answer → RowOutcome
+  fronts : Answer → FrontOutcome → RowOutcome
 
 pub record Example : Type 0 where
   pub side : Side
   pub bytes : List ℕ
-  pub outcome : Outcome
+  pub outcome : RowOutcome
 
-abbrev example : Side → List ℕ → Outcome → Example
+abbrev example : Side → List ℕ → RowOutcome → Example
 example s m o = record { side = s; bytes = m; outcome = o }
 
 -- the lent buffer of the rows with a front: ten bytes, so that one behind the answer is seen to stay
@@ -46,12 +46,12 @@ examples =
     ∷ []
 
 -- what comes of a row's bytes, shown as far as the row shows it
-abbrev comes : Side → List ℕ → Outcome → Outcome
+abbrev comes : Side → List ℕ → RowOutcome → RowOutcome
 comes side m (reads a) = reads (read side m)
 comes side m (fronts a f) = fronts (read side m) (front m lent)
 
-abbrev pub outcomes : List Example → List Outcome
+abbrev pub outcomes : List Example → List RowOutcome
 outcomes es = map (λ e. comes (e .side) (e .bytes) (e .outcome)) es
 
-abbrev pub expected : List Example → List Outcome
+abbrev pub expected : List Example → List RowOutcome
 expected es = map (λ e. e .outcome) es

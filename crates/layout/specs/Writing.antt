@@ -11,7 +11,8 @@ use Rattle.text.specs.Utf8.{wellFormed}
 use Rattle.method.specs.declared.Method.the-variants.{Readdir}
 use Rattle.method.specs.Methods.{replyNumber}
 use Rattle.layout.specs.Kinds.{Num, width, Kind, num, string, bytes, strings}
-use Rattle.layout.specs.Limits.{oversize, unexpectedType, malformedText, dataLengthMismatch, bufferTooSmall, resultSign, lengthsMismatch, longest}
+use Rattle.layout.specs.Refusals.{oversize, unexpectedType, malformedText, dataLengthMismatch, bufferTooSmall, resultSign, lengthsMismatch}
+use Rattle.layout.specs.Limits.{longest}
 use Rattle.layout.specs.Table.{Side, reply, Plan, unexpected, header, asked, plain, led, plan}
 use Rattle.layout.specs.Values.{Value, number, signed, truth, run, runs, runOf, runsOf}
 use Rattle.layout.specs.Reading.{Shape, unknown, known, failure, success}
@@ -151,27 +152,27 @@ lengthOf (stored n) = n
 lengthOf (refused n p) = 0
 
 -- the answer, and the lent buffer afterwards
-pub record Written : Type 0 where
+pub record WriteOutcome : Type 0 where
   pub told : Told
   pub buffer : List ℕ
 
-abbrev pub refuse : ℕ → List ℕ → Written
+abbrev pub refuse : ℕ → List ℕ → WriteOutcome
 refuse n out = record { told = refused n 0; buffer = out }
 
 -- go on where the test holds, else refuse with this number and leave the buffer
-abbrev pub check : ℕ → Bool → List ℕ → Written → Written
+abbrev pub check : ℕ → Bool → List ℕ → WriteOutcome → WriteOutcome
 check n t out w = cond t w (refuse n out)
 
 -- the bytes in front of what stays of the buffer
-abbrev pub store : List ℕ → List ℕ → Written
+abbrev pub store : List ℕ → List ℕ → WriteOutcome
 store e out = record { told = stored (length e); buffer = e ++ drop (length e) out }
 
 -- the bytes, where they are not too many and fit
-unfoldable pub storeChecked : List ℕ → List ℕ → Written
+unfoldable pub storeChecked : List ℕ → List ℕ → WriteOutcome
 storeChecked e out = check oversize (leb (length e) longest) out (check bufferTooSmall (leb (length e) (length out)) out (store e out))
 
 -- the writer of requests and of replies. `summed`: the lengths of names sum to their run; true where there are no names
-unfoldable pub write : Side → Shape → ℕ → ℕ → List (Value (List ℕ)) → Bool → List ℕ → Written
+unfoldable pub write : Side → Shape → ℕ → ℕ → List (Value (List ℕ)) → Bool → List ℕ → WriteOutcome
 write side s i t vs summed out =
     let p = plan side t in
     check unexpectedType (hasShape p s) out
@@ -190,5 +191,5 @@ abbrev pub sum : List ℕ → ℕ
 sum [] = 0
 sum (n ∷ ns) = n + sum ns
 
-unfoldable pub writeNames : ℕ → ℤ → List ℕ → List ℕ → List ℕ → Written
+unfoldable pub writeNames : ℕ → ℤ → List ℕ → List ℕ → List ℕ → WriteOutcome
 writeNames i r ns s out = write reply success i (replyNumber Readdir) (signed r ∷ runs (split ns s) ∷ []) (eqb (sum ns) (length s)) out

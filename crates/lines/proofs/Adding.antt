@@ -6,9 +6,10 @@ use native.Mathlib.Omega.{arith}
 use lib.ListN.{length, take, drop, length-take}
 use lib.Seq.{take-at}
 use Rattle.number.specs.BigEndian.{overwritten}
-use Rattle.field.specs.declared.Cursor.{Cursor}
-use Rattle.store.specs.Stored.{place, Put, Puts, none as no-piece, more as a-piece, concat}
-use Rattle.store.proofs.Storing.{puts-then, each-put}
+use Rattle.wire.specs.declared.Cursor.{Cursor}
+use Rattle.field_writer.specs.Stored.{Put, Puts, none as no-piece, more as a-piece, concat}
+use Rattle.wire.specs.Cursors.{place}
+use Rattle.field_writer.proofs.Storing.{puts-then, each-put}
 use Rattle.lines.specs.Lines.{Line, lineText, text, Begins, AddsLines}
 
 -- ---- lines

@@ -18,8 +18,9 @@ use Rattle.io.specs.Counts.{Counts}
 use Rattle.io.specs.Digits.{glyph, digits, Fewest}
 use Rattle.number.specs.TwosComplement.{bitsOf}
 use Rattle.text.specs.Ascii.{ascii}
-use Rattle.field.specs.declared.Cursor.{Cursor}
-use Rattle.store.specs.Stored.{place, Put}
+use Rattle.wire.specs.declared.Cursor.{Cursor}
+use Rattle.field_writer.specs.Stored.{Put}
+use Rattle.wire.specs.Cursors.{place}
 use Rattle.lines.specs.Lines.{places, decimal, mostDigits, integer, Begins}
 use Rattle.lines.proofs.Adding.{put-begins}
 

@@ -10,10 +10,11 @@ use lib.ListN.{length, length-append}
 use borrow.Author.Tests.{eq-eqb, le-leb, lt-leb, leb-false, eqb-true, eqb-false}
 use Rattle.number.specs.BigEndian.{bytesOf}
 use Rattle.text.specs.Ascii.{ascii}
-use Rattle.layout.specs.Limits.{bufferTooSmall}
-use Rattle.field.specs.declared.Cursor.{Cursor}
-use Rattle.store.specs.Stored.{refusal, roomAt, Room}
-use Rattle.store.proofs.Storing.{room-refused, room-none}
+use Rattle.layout.specs.Refusals.{bufferTooSmall}
+use Rattle.wire.specs.declared.Cursor.{Cursor}
+use Rattle.field_writer.specs.Stored.{roomAt, Room}
+use Rattle.wire.specs.Cursors.{refusal}
+use Rattle.field_writer.proofs.Storing.{room-refused, room-none}
 use Rattle.lines.specs.Lines.{entry}
 
 -- ---- text

@@ -4,10 +4,10 @@ ghost use mathlib.Core.List.{[], _∷_, _++_};
 ghost use Prim.Native.Nat.{_+_, _≤_};
 ghost use Rattle.text.specs.Ascii.{ascii};
 ghost use Rattle.layout.specs.Writing.{bit};
-ghost use Rattle.store.specs.Stored.{Put, Room};
-ghost use Rattle.lines.specs.Lines.{decimal, mostDigits, integer, lineText, text, entry, Begins};
-use field::Cursor;
-use field::Timestamp;
+ghost use Rattle.field_writer.specs.Stored.{Put, Room};
+ghost use Rattle.lines.specs.Lines.{decimal, mostDigits, integer, lineText, entry, entriesText, timeText, Begins};
+use wire::Cursor;
+use wire::Timestamp;
 
 // The most digits of a u64.
 const MOST_DIGITS: usize = 20;
@@ -32,7 +32,7 @@ pub fn put_decimal(out: &mut [u8], c: Cursor, n: u64) -> Cursor
 {
     let mut digits = [0u8; MOST_DIGITS];
     let len = digits_of(n, &mut digits);
-    store::put_all(out, c, &digits[..len])
+    field_writer::put_all(out, c, &digits[..len])
 }
 
 // A number with its sign, where it is negative. The magnitude is taken from the bits, so that the least number has one too.
@@ -52,9 +52,9 @@ fn put_negative(out: &mut [u8], c: Cursor, magnitude: u64) -> Cursor
 {
     let mut digits = [0u8; MOST_DIGITS];
     let len = digits_of(magnitude, &mut digits);
-    let start = store::room(c, 1 + len, out.len());
-    let behind_sign = store::put_all(out, start, b"-");
-    store::put_all(out, behind_sign, &digits[..len])
+    let start = field_writer::room(c, 1 + len, out.len());
+    let behind_sign = field_writer::put_all(out, start, b"-");
+    field_writer::put_all(out, behind_sign, &digits[..len])
 }
 
 // A line of a name and a number.
@@ -71,7 +71,7 @@ pub fn put_signed(out: &mut [u8], c: Cursor, name: &[u8], x: i32) -> Cursor
     ensures { λ r. ⌜ Put (now (out .entry)) c (lineText (now (name .entry) ∷ integer x ∷ [])) (now (out .exit)) r ⌝ }
 {
     let mut value = [0u8; LONGEST_INTEGER];
-    let behind_value = put_integer(&mut value, Cursor { code: 0, at: 0 }, x);
+    let behind_value = put_integer(&mut value, Cursor::START, x);
     let len = behind_value.at;
     put_entry(out, c, name, &value[..len], b'\n')
 }
@@ -89,7 +89,7 @@ pub fn put_flag(out: &mut [u8], c: Cursor, name: &[u8], x: bool) -> Cursor
 
 // A timestamp: two lines, its seconds and its nanoseconds.
 pub fn put_time(out: &mut [u8], c: Cursor, seconds: &[u8], nsec: &[u8], time: Timestamp) -> Cursor
-    ensures { λ r. ⌜ Put (now (out .entry)) c (text ((now (seconds .entry) ∷ decimal (time .seconds) ∷ []) ∷ (now (nsec .entry) ∷ decimal (time .nsec) ∷ []) ∷ [])) (now (out .exit)) r ⌝ }
+    ensures { λ r. ⌜ Put (now (out .entry)) c (timeText (now (seconds .entry)) (now (nsec .entry)) time) (now (out .exit)) r ⌝ }
 {
     put_entries(out, c, seconds, time.seconds, b'\n', nsec, time.nsec as u64)
 }
@@ -111,7 +111,7 @@ fn put_entries(
     second: &[u8],
     b: u64,
 ) -> Cursor
-    ensures { λ r. ⌜ Put (now (out .entry)) c (entry (now (first .entry)) (decimal a) between ++ lineText (now (second .entry) ∷ decimal b ∷ [])) (now (out .exit)) r ⌝ }
+    ensures { λ r. ⌜ Put (now (out .entry)) c (entriesText (now (first .entry)) a between (now (second .entry)) b) (now (out .exit)) r ⌝ }
 {
     let mut value_a = [0u8; MOST_DIGITS];
     let mut value_b = [0u8; MOST_DIGITS];
@@ -132,10 +132,10 @@ fn put_entry(out: &mut [u8], c: Cursor, name: &[u8], value: &[u8], end: u8) -> C
     ensures { λ r. ⌜ Put (now (out .entry)) c (entry (now (name .entry)) (now (value .entry)) end) (now (out .exit)) r ⌝ }
 {
     let start = room_for_two(c, name.len(), value.len() + MARKS, out.len());
-    let behind_name = store::put_all(out, start, name);
-    let behind_space = store::put_u8(out, behind_name, b' ');
-    let behind_value = store::put_all(out, behind_space, value);
-    store::put_u8(out, behind_value, end)
+    let behind_name = field_writer::put_all(out, start, name);
+    let behind_space = field_writer::put_u8(out, behind_name, b' ');
+    let behind_value = field_writer::put_all(out, behind_space, value);
+    field_writer::put_u8(out, behind_value, end)
 }
 
 // The cursor, or a refusal where two pieces of these sizes at it, one behind the other, do not fit into a buffer of `len`. The sum of the
@@ -143,10 +143,10 @@ fn put_entry(out: &mut [u8], c: Cursor, name: &[u8], value: &[u8], end: u8) -> C
 fn room_for_two(c: Cursor, first: usize, second: usize, len: usize) -> Cursor
     ensures { λ r. ⌜ Room c (first + second) len r ⌝ }
 {
-    let start = store::room(c, second, len);
+    let start = field_writer::room(c, second, len);
     let code = start.code;
     if code != 0 {
         return start;
     }
-    store::room(start, first, len - second)
+    field_writer::room(start, first, len - second)
 }

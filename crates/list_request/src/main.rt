@@ -1,19 +1,19 @@
 // Reads one request from the standard input and prints its listing (document 01: the request lister).
-use field::Run;
 use libc::STDIN_FILENO;
 use libc::STDOUT_FILENO;
-use writer::Written;
+use message_writer::Written;
+use wire::Run;
 
 // One byte more than the longest message is enough to know that a message is oversize, also of an endless input.
 fn main() {
     let mut message = [0u8; 65537];
     let len = io::read_full(STDIN_FILENO, &mut message);
     let mut text = [0u8; 256];
-    let written = listing::list_request(
-        field::bytes_of(&message, Run { start: 0, len }),
+    let written = request_listing::list_request(
+        wire::bytes_of(&message, Run { start: 0, len }),
         &mut text,
     );
     if let Written::Stored { len } = written {
-        io::write_all(STDOUT_FILENO, field::bytes_of(&text, Run { start: 0, len }));
+        io::write_all(STDOUT_FILENO, wire::bytes_of(&text, Run { start: 0, len }));
     }
 }

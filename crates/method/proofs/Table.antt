@@ -6,11 +6,11 @@ use mathlib.Core.List.{List, [], _∷_, map, reverse}
 use Prim.Native.Nat.{ℕ, zero, suc, _+_, _-_, _≤_, _<_}
 use native.Mathlib.Decide.{decLt}
 use native.Mathlib.Omega.{arith}
-use lib.Dec.{eqb, leb}
-use borrow.Author.Tests.{eqb-true, eqb-false, eq-eqb, ne-eqb, leb-true}
+use lib.Dec.{eqb, leb, ltb}
+use borrow.Author.Tests.{eqb-true, eqb-false, eq-eqb, ne-eqb, leb-true, ltb-true}
 use Rattle.method.specs.declared.Method.{Method}
 use Rattle.method.specs.declared.Method.the-variants.{Access, Getattr, Readlink, Symlink, Link, Rename, Chmod, Chown, Truncate, Fsync, Open, Mknod, Create, Release, Unlink, Read, Write, Mkdir, Readdir, Rmdir, Statfs, Utimens, Getcreds}
-use Rattle.method.specs.Methods.{methods, requestNumber, replyNumber, Found, found, unknown, lookup, ofRequest, ofReply}
+use Rattle.method.specs.Methods.{methods, requestNumber, replyOffset, replyNumber, Found, found, unknown, lookup, ofRequest, ofReply}
 
 -- ---- numbers 1 to 23, each once
 
@@ -125,6 +125,10 @@ request-passes p h n e = found-passes p requestNumber methods n h e
 pub reply-passes : (p : Method → Bool) → allPass p methods ≡ true → (n : ℕ) {m : Method} → ofReply n ≡ found m → p m ≡ true
 unfolding ofReply
 reply-passes p h n e = found-passes p replyNumber methods n h e
+
+-- request numbers lie below reply numbers
+pub request-below : (m : Method) → requestNumber m < replyOffset
+request-below m = ltb-true (requestNumber m) replyOffset (request-passes (λ k. ltb (requestNumber k) replyOffset) refl (requestNumber m) (request-found m))
 
 -- ---- a number that is none of those of a match is unknown
 

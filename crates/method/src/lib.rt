@@ -1,36 +1,62 @@
-// The 23 methods and their numbers on the wire.
+// The 23 methods and their numbers on the wire: the type of a message.
 ghost use mathlib.Core.Path.{_≡_};
 ghost use Rattle.method.specs.Methods.{requestNumber, replyNumber, ofRequest, ofReply, foundMethod};
 
+// A method of the file system, in document 01's order.
 pub enum Method {
+    // Request 01, reply 81.
     Access,
+    // Request 02, reply 82.
     Getattr,
+    // Request 03, reply 83.
     Readlink,
+    // Request 04, reply 84.
     Symlink,
+    // Request 05, reply 85.
     Link,
+    // Request 06, reply 86.
     Rename,
+    // Request 07, reply 87.
     Chmod,
+    // Request 08, reply 88.
     Chown,
+    // Request 09, reply 89.
     Truncate,
+    // Request 0a, reply 8a.
     Fsync,
+    // Request 0b, reply 8b.
     Open,
+    // Request 0c, reply 8c.
     Mknod,
+    // Request 0d, reply 8d.
     Create,
+    // Request 0e, reply 8e.
     Release,
+    // Request 0f, reply 8f.
     Unlink,
+    // Request 10, reply 90.
     Read,
+    // Request 11, reply 91.
     Write,
+    // Request 12, reply 92.
     Mkdir,
+    // Request 13, reply 93.
     Readdir,
+    // Request 14, reply 94.
     Rmdir,
+    // Request 15, reply 95.
     Statfs,
+    // Request 16, reply 96.
     Utimens,
+    // Request 17, reply 97.
     Getcreds,
 }
 
 // What looking a number up finds.
 pub enum Lookup {
+    // It is this method's.
     Found(Method),
+    // It is no method's.
     Unknown,
 }
 
@@ -134,6 +160,7 @@ impl Method {
     // The unknown response, which answers a request of no method.
     pub const UNKNOWN_RESPONSE: u8 = 0x80;
 
+    // The number of the method's request.
     pub fn request_number(self) -> u8
         ensures { λ r. ⌜ r ≡ requestNumber self ⌝ }
     {
@@ -164,36 +191,14 @@ impl Method {
         }
     }
 
+    // The number of the method's reply.
     pub fn reply_number(self) -> u8
         ensures { λ r. ⌜ r ≡ replyNumber self ⌝ }
     {
-        match self {
-            Method::Access => Method::ACCESS_REPLY,
-            Method::Getattr => Method::GETATTR_REPLY,
-            Method::Readlink => Method::READLINK_REPLY,
-            Method::Symlink => Method::SYMLINK_REPLY,
-            Method::Link => Method::LINK_REPLY,
-            Method::Rename => Method::RENAME_REPLY,
-            Method::Chmod => Method::CHMOD_REPLY,
-            Method::Chown => Method::CHOWN_REPLY,
-            Method::Truncate => Method::TRUNCATE_REPLY,
-            Method::Fsync => Method::FSYNC_REPLY,
-            Method::Open => Method::OPEN_REPLY,
-            Method::Mknod => Method::MKNOD_REPLY,
-            Method::Create => Method::CREATE_REPLY,
-            Method::Release => Method::RELEASE_REPLY,
-            Method::Unlink => Method::UNLINK_REPLY,
-            Method::Read => Method::READ_REPLY,
-            Method::Write => Method::WRITE_REPLY,
-            Method::Mkdir => Method::MKDIR_REPLY,
-            Method::Readdir => Method::READDIR_REPLY,
-            Method::Rmdir => Method::RMDIR_REPLY,
-            Method::Statfs => Method::STATFS_REPLY,
-            Method::Utimens => Method::UTIMENS_REPLY,
-            Method::Getcreds => Method::GETCREDS_REPLY,
-        }
+        self.request_number() + Method::REPLY_OFFSET
     }
 
+    // The method whose request has this number.
     pub fn of_request(number: u8) -> Lookup
         ensures { λ r. ⌜ foundMethod r ≡ ofRequest number ⌝ }
     {
@@ -225,6 +230,7 @@ impl Method {
         }
     }
 
+    // The method whose reply has this number.
     pub fn of_reply(number: u8) -> Lookup
         ensures { λ r. ⌜ foundMethod r ≡ ofReply number ⌝ }
     {

@@ -1,10 +1,10 @@
 // The names of the methods, added at a cursor of a lent buffer.
 ghost use mathlib.Core.Path.{_≡_};
 ghost use Rattle.text.specs.Ascii.{ascii};
-ghost use Rattle.store.specs.Stored.{Put};
+ghost use Rattle.field_writer.specs.Stored.{Put};
 ghost use Rattle.method_names.specs.Names.{nameOf, rowOf};
-use field::Cursor;
 use method::Method;
+use wire::Cursor;
 
 // A name, filled up with spaces, and its length.
 struct Name([u8; 8], usize);
@@ -43,7 +43,7 @@ pub fn put_name(out: &mut [u8], c: Cursor, method: Method) -> Cursor
     let name = name_of(method);
     let text = name.0;
     let len = name.1;
-    store::put_all(out, c, &text[..len])
+    field_writer::put_all(out, c, &text[..len])
 }
 
 // The method's row of the table.

@@ -11,8 +11,8 @@ use Rattle.layout.specs.Reading.{read}
 use Rattle.layout.specs.Names as layout
 use Rattle.layout.specs.Names.{namesOf, opened, name, ended, step, steps, gather}
 use Rattle.layout.proofs.Iterating.{opened-steps, ended-stays}
-use Rattle.field.specs.declared.Run.{Run}
-use Rattle.field.specs.Cursors.{shown}
+use Rattle.wire.specs.declared.Run.{Run}
+use Rattle.wire.specs.Runs.{shown}
 use Rattle.names.specs.declared.Position.{Position}
 use Rattle.names.specs.declared.Step.the-variants as S
 use Rattle.names.specs.Positions.{positionOf, nameOf, behind, skipped, nthName}

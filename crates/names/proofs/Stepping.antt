@@ -8,7 +8,7 @@ use lib.Dec.{eqb, leb}
 use lib.ListN.{length, take}
 use borrow.Author.Tests.{eq-eqb, ne-eqb, le-leb}
 use Rattle.layout.specs.Kinds.{bytes}
-use Rattle.layout.specs.Limits.{truncated}
+use Rattle.layout.specs.Refusals.{truncated}
 use Rattle.layout.specs.Table.{reply}
 use Rattle.layout.specs.Values.{Part, part, Value, run, bytesIn}
 use Rattle.layout.specs.Reading.{Outcome, got, fail, followed, numAt, runAt, bytesAt, anyBytes, read}
@@ -17,9 +17,11 @@ use Rattle.layout.specs.Names as layout
 use Rattle.layout.specs.Names.{namesOf, position, opened, name, ended, stepped, stepBy, step, steps}
 use Rattle.layout.proofs.Tests.{apart}
 use Rattle.layout.proofs.Iterating.{opened-steps, ended-stays}
-use Rattle.field.specs.declared.Cursor.{Cursor}
-use Rattle.field.specs.declared.Run.{Run}
-use Rattle.field.specs.Cursors.{outcome, Took, partOf, shown}
+use Rattle.wire.specs.declared.Cursor.{Cursor}
+use Rattle.wire.specs.declared.Run.{Run}
+use Rattle.wire.specs.Cursors.{place}
+use Rattle.field_reader.specs.Cursors.{outcomeAt, Took}
+use Rattle.wire.specs.Runs.{partOf, shown}
 use Rattle.names.specs.declared.Position.{Position}
 use Rattle.names.specs.declared.Step.{Step}
 use Rattle.names.specs.declared.Step.the-variants as S
@@ -33,15 +35,15 @@ step-left m p n h =
     let s : n ≡ suc (n - 1) = omega arith in
     ap (stepBy m p) s ∙ ap (λ (k : ℕ). stepped (position p k) (n - 1) (bytesAt m p)) (sym s)
 
-module _ (m : List ℕ) (p : ℕ) {x : Part} {d : Cursor} (h : Took m (record { code = 0; at = p }) bytes (run x) d) where
-  name-read : bytesAt m p ≡ outcome d x
+module _ (m : List ℕ) (p : ℕ) {x : Part} {d : Cursor} (h : Took m (place p) bytes (run x) d) where
+  name-read : bytesAt m p ≡ outcomeAt d x
   name-read = go (eqb (d .code) 0) (bytesAt m p) (h .is)
     where
       go : (b : Bool) (o : Outcome Part) → _≡_ {A = Outcome (Value Part)} (cond b (got (run x) (d .at)) (fail (d .code) (d .at))) (followed o (λ a q. got (run a) q))
           → o ≡ cond b (got x (d .at)) (fail (d .code) (d .at))
       go true (got y q) e = cc
-      go true (fail n r) e = let z : _≡_ {A = ℕ} 0 1 = cc in apart z
-      go false (got y q) e = let z : _≡_ {A = ℕ} 0 1 = cc in apart z
+      go true (fail n r) e = let z : false ≡ true = cc in apart z
+      go false (got y q) e = let z : false ≡ true = cc in apart z
       go false (fail n r) e = cc
 
   pub step-name : (n : ℕ) → 0 < n → d .code ≡ 0 → name x (position (d .at) (n - 1)) ≡ step m (position p n)
@@ -84,7 +86,7 @@ pub end-again : {m : List ℕ} {w v : Position} {s : Step} → Next m w (S.End v
 end-again {m} {w} {v} {s} e f = go s (f .is ∙ ap (step m) (ended-stays m (positionOf w) (sym (e .is))) ∙ sym (e .is))
   where
     go : (s : Step) → stepOf s ≡ ended (positionOf v) → s ≡ S.End v
-    go (S.Name x u) g = let z : _≡_ {A = ℕ} 0 1 = cc in apart z
+    go (S.Name x u) g = let z : false ≡ true = cc in apart z
     go (S.End u) g = let h : positionOf u ≡ positionOf v = cc in ap S.End (same-position u v h)
 
 -- ---- a name lies inside the message, at whatever position it was given
@@ -98,11 +100,11 @@ run-inside m p n {x} {q} e = go (leb (p + n) (length m)) refl e
   where
     go : (b : Bool) → leb (p + n) (length m) ≡ b → cond b (got (part p n) (p + n)) (fail truncated p) ≡ got x q → Inside m x
     go true h e = let y : part p n ≡ x = cc in rw (← y) h
-    go false h e = let z : _≡_ {A = ℕ} 0 1 = cc in apart z
+    go false h e = let z : false ≡ true = cc in apart z
 
 bytes-inside : (m : List ℕ) (o : Outcome ℕ) {x : Part} {q : ℕ} → followed o (λ n p. runAt anyBytes n m p) ≡ got x q → Inside m x
 bytes-inside m (got n p) e = run-inside m p n e
-bytes-inside m (fail n p) e = let z : _≡_ {A = ℕ} 0 1 = cc in apart z
+bytes-inside m (fail n p) e = let z : false ≡ true = cc in apart z
 
 -- the bytes that are shown of a part are all its bytes
 abbrev Whole : List ℕ → Part → Type 0

@@ -7,7 +7,7 @@ use Rattle.layout.specs.Reading.{Answer, read}
 use Rattle.layout.specs.Table.{reply}
 use Rattle.layout.specs.Parts.{nothing}
 use Rattle.layout.specs.Names as layout
-use Rattle.field.specs.Cursors.{partOf}
+use Rattle.wire.specs.Runs.{partOf}
 use Rattle.names.specs.declared.Position.{Position}
 use Rattle.names.specs.declared.Step.{Step}
 use Rattle.names.specs.declared.Step.the-variants as S

@@ -8,16 +8,15 @@ ghost use lib.IntN.{ℤ};
 ghost use lib.ListN.{length};
 ghost use Rattle.layout.specs.Values.{signed};
 ghost use Rattle.layout.specs.Names.{namesAmong, namesOf, opened, step as step·at};
-ghost use Rattle.field.specs.Cursors.{Shows};
+ghost use Rattle.wire.specs.Runs.{Shows};
 ghost use Rattle.reply_reader.specs.Answers.{answerOf, valuesOf};
 ghost use Rattle.names.specs.Positions.{openedBy, positionOf, stepOf, nameOf, behind as behind·step, skipped};
-use field::Cursor;
-use field::Run;
 use reply_reader::Reply;
 use reply_reader::ReplyAnswer;
-
-// Behind header, result and count.
-const FIRST_NAME: usize = 13;
+use wire::Cursor;
+use wire::FIRST_NAME;
+use wire::Refusal;
+use wire::Run;
 
 // Where the next name begins, and how many are left.
 pub struct Position {
@@ -25,9 +24,11 @@ pub struct Position {
     pub left: u32,
 }
 
-// A name and the position behind it; or there is no name, and the position stays.
+// What a step gives.
 pub enum Step {
+    // A name, and the position behind it.
     Name { run: Run, next: Position },
+    // No name; the position stays.
     End { position: Position },
 }
 
@@ -74,7 +75,7 @@ fn count_of_reply(reply: Reply) -> u32
 
 // The next name. Past the last there is none, and the position stays. Every position is taken: at one that was made up the name is
 // what stands there, where it lies inside the message.
-pub fn next(m: &[u8], position: Position) -> Step
+pub fn step_at(m: &[u8], position: Position) -> Step
     ensures { λ r. ⌜ stepOf r ≡ step·at (now (m .entry)) (positionOf position) ⌝ }
 {
     let at = position.at;
@@ -82,11 +83,17 @@ pub fn next(m: &[u8], position: Position) -> Step
     if left == 0 {
         return Step::End { position };
     }
-    let name = field::bytes_at(m, Cursor { code: 0, at });
+    let name = field_reader::bytes_at(
+        m,
+        Cursor {
+            code: Refusal::NONE,
+            at,
+        },
+    );
     let run = name.value;
     let end = name.next;
     let code = end.code;
-    if code == 0 {
+    if code == Refusal::NONE {
         return Step::Name {
             run,
             next: Position {
@@ -113,7 +120,7 @@ pub fn name<'a>(m: &'a [u8], step: Step) -> &'a [u8]
     ensures { λ s. ⌜ Shows (m .entry) (nameOf (stepOf step)) s ⌝ }
 {
     match step {
-        Step::Name { run, .. } => field::bytes_of(m, run),
+        Step::Name { run, .. } => wire::bytes_of(m, run),
         Step::End { .. } => &m[0..0],
     }
 }
@@ -122,7 +129,7 @@ pub fn name<'a>(m: &'a [u8], step: Step) -> &'a [u8]
 pub fn next_name<'a>(m: &'a [u8], position: Position) -> &'a [u8]
     ensures { λ s. ⌜ Shows (m .entry) (nameOf (step·at (now (m .entry)) (positionOf position))) s ⌝ }
 {
-    let step = next(m, position);
+    let step = step_at(m, position);
     name(m, step)
 }
 
@@ -133,7 +140,7 @@ pub fn skip(m: &[u8], position: Position, count: u32) -> Position
     let mut here = position;
     let mut left = count;
     while 0 < left {
-        let step = next(m, here);
+        let step = step_at(m, here);
         match step {
             Step::Name { next, .. } => here = next,
             Step::End { position: end } => return end,

@@ -10,8 +10,8 @@ use Rattle.layout.specs.Table.{reply}
 use Rattle.layout.specs.Values.{Part, bytesIn}
 use Rattle.layout.specs.Reading.{read}
 use Rattle.layout.specs.Names.{namesOf}
-use Rattle.field.specs.declared.Run.{Run}
-use Rattle.field.specs.Cursors.{partOf, shown}
+use Rattle.wire.specs.declared.Run.{Run}
+use Rattle.wire.specs.Runs.{partOf, shown}
 use Rattle.names.specs.declared.Position.{Position}
 use Rattle.names.specs.declared.Step.{Step}
 use Rattle.names.specs.declared.Step.the-variants as S

@@ -1,4 +1,4 @@
--- The walk that `Iter::step` and `Iter::next_name` share: a function with the struct alone, which takes it apart, calls a function on the reply
+-- The walk that `Iter::peek` and `Iter::next_name` share: a function with the struct alone, which takes it apart, calls a function on the reply
 -- and the position, and returns what that returns. Assumes nothing.
 use mathlib.Core.Path.{refl}
 use mathlib.Core.List.{[], _∷_}

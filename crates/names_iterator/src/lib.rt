@@ -2,12 +2,13 @@
 // is Copy, and the other methods leave it as it is. Each method takes it apart and leaves the work to functions of crate `names`.
 ghost use mathlib.Core.Path.{_≡_};
 ghost use Rattle.layout.specs.Names.{step as step·at};
-ghost use Rattle.field.specs.Cursors.{Shows};
+ghost use Rattle.wire.specs.Runs.{Shows};
 ghost use Rattle.names.specs.Positions.{positionOf, stepOf, nameOf, nthName};
 ghost use Rattle.names_iterator.specs.Iterating.{Opened, stepOn, Further, Takes, NthStep};
 use names::Position;
 use names::Step;
 
+// The iterator: the reply, and where the next name begins.
 pub struct Iter<'a> {
     pub reply: &'a [u8],
     pub position: Position,
@@ -30,7 +31,7 @@ impl<'a> Iter<'a> {
     {
         let reply = self.reply;
         let position = self.position;
-        let step = names::next(reply, position);
+        let step = names::step_at(reply, position);
         let behind = names::behind(step);
         self.position = behind;
         step
@@ -38,13 +39,13 @@ impl<'a> Iter<'a> {
 
     // Whether there is a next name, where it lies, and the position behind it. Past the last it says that there is none. The iterator
     // itself stays: `skip(1)` gives the one behind the name.
-    pub fn step(self) -> Step
+    pub fn peek(self) -> Step
         ensures { λ s. ⌜ stepOf s ≡ stepOn (self .entry) ⌝ }
     {
-        names::next(self.reply, self.position)
+        names::step_at(self.reply, self.position)
     }
 
-    // The bytes of the next name, as a part of the reply. An empty name and the end look the same; `step` tells them apart.
+    // The bytes of the next name, as a part of the reply. An empty name and the end look the same; `peek` tells them apart.
     pub fn next_name(self) -> &'a [u8]
         ensures { λ s. ⌜ Shows (self .entry .reply) (nameOf (stepOn (self .entry))) s ⌝ }
     {
@@ -62,11 +63,12 @@ impl<'a> Iter<'a> {
     }
 }
 
-// One step from a position that the caller keeps. A caller of this holds no struct, so the toolchain covers it.
+// The covered door to `peek`: one step from a position that the caller keeps. The struct is made and opened here, so a caller of this holds none,
+// and the toolchain covers it.
 pub fn step_from(reply: &[u8], position: Position) -> Step
     ensures { λ s. ⌜ stepOf s ≡ step·at (now (reply .entry)) (positionOf position) ⌝ }
 {
-    Iter { reply, position }.step()
+    Iter { reply, position }.peek()
 }
 
 // A step, and where it leaves the iterator.

@@ -8,19 +8,27 @@ ghost use Rattle.number.specs.BigEndian.{be, beAfter, bytesOf, numberAt,
 ghost use Rattle.number.specs.TwosComplement.{signedOf, bitsOf};
 ghost use Rattle.number.specs.Answers.{foundU8, foundU32, foundU64};
 
-// What reading a number of 1, 4 or 8 bytes finds: the number, or too few bytes for it.
+// What reading a number of 1 byte finds.
 pub enum ReadU8 {
+    // The number.
     Whole(u8),
+    // Too few bytes for it.
     Truncated,
 }
 
+// What reading a number of 4 bytes finds.
 pub enum ReadU32 {
+    // The number.
     Whole(u32),
+    // Too few bytes for it.
     Truncated,
 }
 
+// What reading a number of 8 bytes finds.
 pub enum ReadU64 {
+    // The number.
     Whole(u64),
+    // Too few bytes for it.
     Truncated,
 }
 
@@ -189,6 +197,7 @@ pub fn i8_of_bits(bits: u8) -> i8
     }
 }
 
+// The same of 4 bytes.
 pub fn i32_of_bits(bits: u32) -> i32
     ensures { λ r. ⌜ r ≡ signedOf 4 bits ⌝ }
 {
@@ -210,6 +219,7 @@ pub fn bits_of_i8(x: i8) -> u8
     }
 }
 
+// The same of 4 bytes.
 pub fn bits_of_i32(x: i32) -> u32
     ensures { λ r. ⌜ r ≡ bitsOf 4 x ⌝ }
 {

@@ -1,22 +1,14 @@
 -- Tests: what an answer of two tests says of each. Assumes nothing.
-use mathlib.Core.Path.{_≡_, refl, sym, ap}
-use mathlib.Core.Bool.{Bool, true, false, not, cond, _&&_, _||_}
-use Prim.Native.Nat.{ℕ}
-use native.Mathlib.Omega.{arith}
-
-pub never : true ≡ false → ⊥
-never e = let z : _≡_ {A = ℕ} 0 1 = ap (λ (b : Bool). cond b 0 1) e in omega arith
+use mathlib.Core.Path.{_≡_, refl, sym}
+use mathlib.Core.Bool.{Bool, true, false, not, cond, _||_}
+use Rattle.layout.proofs.Tests.{apart}
 
 pub neither : (a b : Bool) → (a || b) ≡ false → (a ≡ false) × (b ≡ false)
-neither true b e = absurd (never e)
+neither true b e = apart (sym e)
 neither false b e = (refl, e)
 
-pub both : (a b : Bool) → (a && b) ≡ true → (a ≡ true) × (b ≡ true)
-both true b e = (refl, e)
-both false b e = absurd (never (sym e))
-
 pub not-so : (a : Bool) → not a ≡ true → a ≡ false
-not-so true e = absurd (never (sym e))
+not-so true e = apart e
 not-so false e = refl
 
 -- two tests that exclude each other may be made in either order

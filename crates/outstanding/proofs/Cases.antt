@@ -5,12 +5,12 @@ use mathlib.Core.List.{List, map}
 use Prim.Native.Nat.{ℕ, _<_, _≤_}
 use lib.ListN.{length}
 use borrow.Author.Tests.{ne-eqb, eq-eqb, le-leb, lt-leb}
-use Rattle.layout.specs.Limits.{unexpectedType}
+use Rattle.layout.specs.Refusals.{unexpectedType, idOutstanding, tableFull, idNotOutstanding, typeMismatch, unsoundTable}
 use Rattle.layout.specs.Reading.{Answer}
 use Rattle.outstanding_records.specs.declared.Record.{Record}
 use Rattle.outstanding.specs.Records.{isFree, holdsId, any, lookup, ids}
 use Rattle.outstanding_records.specs.Copies.{size}
-use Rattle.outstanding.specs.Calls.{typeBound, idOutstanding, tableFull, idNotOutstanding, typeMismatch, unsoundTable, sound, entered, removed, outcome, performed, done, refused, refuse, empty, request, insert, enter, answers, answered, refuseReply, settleAccepted, settle, arrive, seen, not-seen, look}
+use Rattle.outstanding.specs.Calls.{typeBound, sound, entered, removed, outcome, performed, done, refused, refuseCall, empty, request, insert, enter, answers, answered, refuseReply, settleAccepted, settle, arrive, seen, not-seen, look}
 
 -- ---- emptying
 
@@ -31,7 +31,7 @@ module _ (l : List Record) where
   other-size h = rw (ne-eqb (length l) size h)
 
   module _ (e : sound l ≡ false) where
-    pub enter-unsound : (i t : ℕ) → enter l i t ≡ refuse unsoundTable
+    pub enter-unsound : (i t : ℕ) → enter l i t ≡ refuseCall unsoundTable
     unfolding enter
     enter-unsound i t = rw e
 
@@ -59,16 +59,16 @@ module _ (l : List Record) where
 -- ---- entering
 
 module _ (l : List Record) (i t : ℕ) where
-  pub insert-reply-type : typeBound ≤ t → insert l i t ≡ refuse unexpectedType
+  pub insert-reply-type : typeBound ≤ t → insert l i t ≡ refuseCall unexpectedType
   unfolding insert
   insert-reply-type h = rw (le-leb typeBound t h)
 
   module _ (h : t < typeBound) where
-    pub insert-outstanding : any (holdsId i) l ≡ true → insert l i t ≡ refuse idOutstanding
+    pub insert-outstanding : any (holdsId i) l ≡ true → insert l i t ≡ refuseCall idOutstanding
     unfolding insert
     insert-outstanding e = rw (lt-leb typeBound t h, e)
 
-    pub insert-full : any (holdsId i) l ≡ false → any isFree l ≡ false → insert l i t ≡ refuse tableFull
+    pub insert-full : any (holdsId i) l ≡ false → any isFree l ≡ false → insert l i t ≡ refuseCall tableFull
     unfolding insert
     insert-full e f = rw (lt-leb typeBound t h, e, f)
 

@@ -14,7 +14,8 @@ use Rattle.outstanding_records.specs.declared.Record.{Record}
 use Rattle.outstanding_records.specs.declared.Record.the-variants.{Free}
 use Rattle.outstanding.specs.Records.{isFree, holdsId, any, replace, lookup, ids, isIn, once, isSome}
 use Rattle.outstanding_records.specs.Copies.{size}
-use Rattle.outstanding.specs.Calls.{typeBound, tableFull, sound, entered, after, Outcome, outcome, Told, done, refused, refuse, empty, request, insert, enter, answers, Arrival, answered, refused-reply, settleAccepted, arrive}
+use Rattle.layout.specs.Refusals.{tableFull}
+use Rattle.outstanding.specs.Calls.{typeBound, sound, entered, after, CallOutcome, outcome, Told, done, refused, refuseCall, empty, request, insert, enter, answers, Arrival, answered, refused-reply, settleAccepted, arrive}
 use Rattle.outstanding.proofs.Cases.{empty-other-size, empty-done, enter-sound, arrive-sound, insert-full, insert-done, settle-answered}
 use Rattle.outstanding.proofs.Maps.{lookup-absent, lookup-cleared, ids-cleared, lookup-entered, lookup-removed, remove-swap, held-some, held-in, ids-once, ids-most, removed-free, free-left, other-way}
 use Rattle.outstanding.proofs.Soundness.{Sound, sound-in, sound-cleared, sound-entered, sound-removed}
@@ -58,7 +59,7 @@ module _ (l : List Record) (i t : ℕ) where
   pub enter-map : enter l i t .told ≡ done → (j : ℕ) → lookup (entered-table l i t) j ≡ cond (eqb i j) (some (request t)) (lookup l j)
   enter-map = by (entering l i t)
     where
-      by : {o : Outcome Told} → Entering l i t o → o .told ≡ done → (j : ℕ) → lookup (after (o .change) l) j ≡ cond (eqb i j) (some (request t)) (lookup l j)
+      by : {o : CallOutcome Told} → Entering l i t o → o .told ≡ done → (j : ℕ) → lookup (after (o .change) l) j ≡ cond (eqb i j) (some (request t)) (lookup l j)
       by (stopped n) e j = absurd (never-done (sym e))
       by (passed s h n f) e j = lookup-entered l i (request t) j f n
 
@@ -66,7 +67,7 @@ module _ (l : List Record) (i t : ℕ) where
   pub enter-new : enter l i t .told ≡ done → lookup l i ≡ none
   enter-new = by (entering l i t)
     where
-      by : {o : Outcome Told} → Entering l i t o → o .told ≡ done → lookup l i ≡ none
+      by : {o : CallOutcome Told} → Entering l i t o → o .told ≡ done → lookup l i ≡ none
       by (stopped n) e = absurd (never-done (sym e))
       by (passed s h n f) e = lookup-absent l i n
 
@@ -74,14 +75,14 @@ module _ (l : List Record) (i t : ℕ) where
   pub enter-keeps : {n p : ℕ} → enter l i t .told ≡ refused n p → entered-table l i t ≡ l
   enter-keeps {n} {p} = by (entering l i t)
     where
-      by : {o : Outcome Told} → Entering l i t o → o .told ≡ refused n p → after (o .change) l ≡ l
+      by : {o : CallOutcome Told} → Entering l i t o → o .told ≡ refused n p → after (o .change) l ≡ l
       by (stopped n) e = refl
       by (passed s h n f) e = absurd (never-done e)
 
   pub enter-stays-sound : Sound l → Sound (entered-table l i t)
   enter-stays-sound = by (entering l i t)
     where
-      by : {o : Outcome Told} → Entering l i t o → Sound l → Sound (after (o .change) l)
+      by : {o : CallOutcome Told} → Entering l i t o → Sound l → Sound (after (o .change) l)
       by (stopped n) s = s
       by (passed s h n f) _ = sound-entered l s i t h n
 
@@ -92,7 +93,7 @@ module _ (l : List Record) (i t : ℕ) where
         let room : any isFree l ≡ true = sym (free-left l) ∙ lt-ltb (length (ids l)) (length l) (omega (arith, k, s .full-size)) in
         enter-sound l (sound-in l s) i t ∙ insert-done l i t h (held-some l i ∙ ap isSome n) room
 
-    pub enter-full : length (ids l) ≡ size → enter l i t ≡ refuse tableFull
+    pub enter-full : length (ids l) ≡ size → enter l i t ≡ refuseCall tableFull
     enter-full k =
         let full : any isFree l ≡ false = sym (free-left l) ∙ le-ltb (length (ids l)) (length l) (omega (arith, k, s .full-size)) in
         enter-sound l (sound-in l s) i t ∙ insert-full l i t h (held-some l i ∙ ap isSome n) full
@@ -104,7 +105,7 @@ module _ (l : List Record) (a : Answer) where
   pub arrive-whole : {b : Answer} → arrive l a .told ≡ answered b → b ≡ a
   arrive-whole {b} = by (arriving l a)
     where
-      by : {x : Answer} {o : Outcome Arrival} → Arriving l x o → o .told ≡ answered b → b ≡ x
+      by : {x : Answer} {o : CallOutcome Arrival} → Arriving l x o → o .told ≡ answered b → b ≡ x
       by (stopped n p) e = absurd (never-answered e)
       by (passed q s h f g) e = cc
 
@@ -112,14 +113,14 @@ module _ (l : List Record) (a : Answer) where
   pub arrive-keeps : {n p : ℕ} → arrive l a .told ≡ refused-reply n p → arrived-table l a ≡ l
   arrive-keeps {n} {p} = by (arriving l a)
     where
-      by : {x : Answer} {o : Outcome Arrival} → Arriving l x o → o .told ≡ refused-reply n p → after (o .change) l ≡ l
+      by : {x : Answer} {o : CallOutcome Arrival} → Arriving l x o → o .told ≡ refused-reply n p → after (o .change) l ≡ l
       by (stopped n p) e = refl
       by (passed q s h f g) e = absurd (never-answered (sym e))
 
   pub arrive-stays-sound : Sound l → Sound (arrived-table l a)
   arrive-stays-sound = by (arriving l a)
     where
-      by : {x : Answer} {o : Outcome Arrival} → Arriving l x o → Sound l → Sound (after (o .change) l)
+      by : {x : Answer} {o : CallOutcome Arrival} → Arriving l x o → Sound l → Sound (after (o .change) l)
       by (stopped n p) s = s
       by (passed {i = i} q s h f g) _ = sound-removed l s i
 
@@ -127,7 +128,7 @@ module _ (l : List Record) (a : Answer) where
   pub room-again : {b : Answer} → arrive l a .told ≡ answered b → (i t : ℕ) → t < typeBound → lookup (arrived-table l a) i ≡ none → enter (arrived-table l a) i t .told ≡ done
   room-again {b} = by (arriving l a)
     where
-      by : {x : Answer} {o : Outcome Arrival} → Arriving l x o → o .told ≡ answered b → (i t : ℕ) → t < typeBound → lookup (after (o .change) l) i ≡ none → enter (after (o .change) l) i t .told ≡ done
+      by : {x : Answer} {o : CallOutcome Arrival} → Arriving l x o → o .told ≡ answered b → (i t : ℕ) → t < typeBound → lookup (after (o .change) l) i ≡ none → enter (after (o .change) l) i t .told ≡ done
       by (stopped n p) e i t h f = absurd (never-answered e)
       by (passed {i = j} q s held found g) e i t h f =
           let m = replace (holdsId j) Free l in
@@ -137,7 +138,7 @@ module _ (l : List Record) (s : Shape) (i t k : ℕ) (vs : List (Value Part)) wh
   pub arrive-map : arrive l (accepted s i t vs k) .told ≡ answered (accepted s i t vs k) → (j : ℕ) → lookup (arrived-table l (accepted s i t vs k)) j ≡ cond (eqb i j) none (lookup l j)
   arrive-map = by (arriving l (accepted s i t vs k))
     where
-      by : {o : Outcome Arrival} → Arriving l (accepted s i t vs k) o → o .told ≡ answered (accepted s i t vs k) → (j : ℕ) → lookup (after (o .change) l) j ≡ cond (eqb i j) none (lookup l j)
+      by : {o : CallOutcome Arrival} → Arriving l (accepted s i t vs k) o → o .told ≡ answered (accepted s i t vs k) → (j : ℕ) → lookup (after (o .change) l) j ≡ cond (eqb i j) none (lookup l j)
       by (stopped n p) e j = absurd (never-answered e)
       by (passed q ok h f g) e j = lookup-removed l i j (ok .alone)
 
@@ -145,7 +146,7 @@ module _ (l : List Record) (s : Shape) (i t k : ℕ) (vs : List (Value Part)) wh
   pub arrive-held : arrive l (accepted s i t vs k) .told ≡ answered (accepted s i t vs k) → answers t (lookup l i) ≡ true
   arrive-held = by (arriving l (accepted s i t vs k))
     where
-      by : {o : Outcome Arrival} → Arriving l (accepted s i t vs k) o → o .told ≡ answered (accepted s i t vs k) → answers t (lookup l i) ≡ true
+      by : {o : CallOutcome Arrival} → Arriving l (accepted s i t vs k) o → o .told ≡ answered (accepted s i t vs k) → answers t (lookup l i) ≡ true
       by (stopped n p) e = absurd (never-answered e)
       by (passed q ok h f g) e = rw f g
 
@@ -164,7 +165,7 @@ module _ (l : List Record) (s : Sound l) where
 -- ---- the replies to two different outstanding ids, in either order: both are answered as they were alone, and the records are the same
 
 module _ (l : List Record) where
-  behind : {s s′ : Shape} {i i′ t t′ k k′ : ℕ} {vs vs′ : List (Value Part)} {o o′ : Outcome Arrival} → eqb i i′ ≡ false → Arriving l (accepted s i t vs k) o → Arriving l (accepted s′ i′ t′ vs′ k′) o′
+  behind : {s s′ : Shape} {i i′ t t′ k k′ : ℕ} {vs vs′ : List (Value Part)} {o o′ : CallOutcome Arrival} → eqb i i′ ≡ false → Arriving l (accepted s i t vs k) o → Arriving l (accepted s′ i′ t′ vs′ k′) o′
       → o .told ≡ answered (accepted s i t vs k) → o′ .told ≡ answered (accepted s′ i′ t′ vs′ k′) → arrive (after (o .change) l) (accepted s′ i′ t′ vs′ k′) ≡ o′
   behind n (stopped _ _) w e e′ = absurd (never-answered e)
   behind n (passed q ok h f g) (stopped _ _) e e′ = absurd (never-answered e′)
@@ -173,7 +174,7 @@ module _ (l : List Record) where
       let found : lookup m i′ ≡ some q′ = lookup-removed l i i′ (ok .alone) ∙ rw n f′ in
       rw (arrive-sound m (sound-in m (sound-removed l ok i)) _) (settle-answered m i′ t′ _ (held-some m i′ ∙ ap isSome found) (ap (answers t′) found ∙ g′))
 
-  swapped : {s s′ : Shape} {i i′ t t′ k k′ : ℕ} {vs vs′ : List (Value Part)} {o o′ : Outcome Arrival} → eqb i i′ ≡ false → Arriving l (accepted s i t vs k) o → Arriving l (accepted s′ i′ t′ vs′ k′) o′
+  swapped : {s s′ : Shape} {i i′ t t′ k k′ : ℕ} {vs vs′ : List (Value Part)} {o o′ : CallOutcome Arrival} → eqb i i′ ≡ false → Arriving l (accepted s i t vs k) o → Arriving l (accepted s′ i′ t′ vs′ k′) o′
       → o .told ≡ answered (accepted s i t vs k) → o′ .told ≡ answered (accepted s′ i′ t′ vs′ k′) → after (o′ .change) (after (o .change) l) ≡ after (o .change) (after (o′ .change) l)
   swapped n (stopped _ _) w e e′ = absurd (never-answered e)
   swapped n (passed q ok h f g) (stopped _ _) e e′ = absurd (never-answered e′)
@@ -190,9 +191,9 @@ pub either-order : (l : List Record) (s s′ : Shape) (i i′ t t′ k k′ : �
 either-order l s s′ i i′ t t′ k k′ vs vs′ n e e′ =
     let a = accepted s i t vs k in
     let b = accepted s′ i′ t′ vs′ k′ in
-    ap (λ (o : Outcome Arrival). after (o .change) (arrived-table l a)) (still-answered l s s′ i i′ t t′ k k′ vs vs′ n e e′)
+    ap (λ (o : CallOutcome Arrival). after (o .change) (arrived-table l a)) (still-answered l s s′ i i′ t t′ k k′ vs vs′ n e e′)
     ∙ swapped l n (arriving l a) (arriving l b) e e′
-    ∙ sym (ap (λ (o : Outcome Arrival). after (o .change) (arrived-table l b)) (still-answered l s′ s i′ i t′ t k′ k vs′ vs (other-way i i′ n) e′ e))
+    ∙ sym (ap (λ (o : CallOutcome Arrival). after (o .change) (arrived-table l b)) (still-answered l s′ s i′ i t′ t k′ k vs′ vs (other-way i i′ n) e′ e))
 
 -- ---- what is told of an id depends on nothing that is held under other ids
 

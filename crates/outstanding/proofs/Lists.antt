@@ -10,7 +10,8 @@ use lib.ListN.{length, getD, set, take, drop}
 use lib.Seq.{drop-cons, take-all, take-suc, take-suc-set}
 use borrow.Author.Tests.{lt-ltb, le-ltb}
 use Rattle.outstanding.specs.Records.{any, all, replace, first}
-use Rattle.outstanding.proofs.Bools.{neither, both}
+use Rattle.layout.proofs.Tests.{and-both}
+use Rattle.outstanding.proofs.Bools.{neither}
 
 -- ---- a list, by its head
 
@@ -18,7 +19,7 @@ pub none-in : {A : Type 0} (p : A → Bool) (x : A) (l : List A) → any p (x �
 none-in p x l e = neither (p x) (any p l) e
 
 pub all-in : {A : Type 0} (p : A → Bool) (x : A) (l : List A) → all p (x ∷ l) ≡ true → (p x ≡ true) × (all p l ≡ true)
-all-in p x l e = both (p x) (all p l) e
+all-in p x l e = and-both (p x) (all p l) e
 
 -- ---- a list, from i on: the element there, and the rest
 

@@ -12,16 +12,17 @@ use Rattle.outstanding_records.specs.declared.Request.{Request}
 use Rattle.outstanding_records.specs.declared.Record.{Record}
 use Rattle.outstanding_records.specs.declared.Record.the-variants.{Free, Held}
 use Rattle.outstanding.specs.Records.{isFree, holdsId, sameId, any, replace, distinct, lookup, ids, isIn, once, isSome}
-use Rattle.outstanding.proofs.Bools.{never, both, not-so, swap}
+use Rattle.layout.proofs.Tests.{apart, and-both}
+use Rattle.outstanding.proofs.Bools.{not-so, swap}
 use Rattle.outstanding.proofs.Lists.{none-in, any-replace, replaced-any}
 
 -- ---- no id is held twice, by the head
 
 pub rest-distinct : (r : Record) (l : List Record) → distinct (r ∷ l) ≡ true → distinct l ≡ true
-rest-distinct r l d = both (not (any (sameId r) l)) (distinct l) d .1
+rest-distinct r l d = and-both (not (any (sameId r) l)) (distinct l) d .1
 
 pub head-alone : (i : ℕ) (q : Request) (l : List Record) → distinct (Held i q ∷ l) ≡ true → any (holdsId i) l ≡ false
-head-alone i q l d = not-so _ (both (not (any (holdsId i) l)) (distinct l) d .0)
+head-alone i q l d = not-so _ (and-both (not (any (holdsId i) l)) (distinct l) d .0)
 
 -- a free record repeats no id
 pub free-alone : (l : List Record) → any (sameId Free) l ≡ false
@@ -29,8 +30,8 @@ free-alone [] = refl
 free-alone (r ∷ l) = free-alone l
 
 -- ids that differ are not both the id asked for
-apart : (a i j : ℕ) → eqb a i ≡ false → eqb a j ≡ true → eqb i j ≡ true → ⊥
-apart a i j n p q = eqb-false a i n (eqb-true a j p ∙ sym (eqb-true i j q))
+ids-differ : (a i j : ℕ) → eqb a i ≡ false → eqb a j ≡ true → eqb i j ≡ true → ⊥
+ids-differ a i j n p q = eqb-false a i n (eqb-true a j p ∙ sym (eqb-true i j q))
 
 pub other-way : (i j : ℕ) → eqb i j ≡ false → eqb j i ≡ false
 other-way i j n = ne-eqb j i (λ h. eqb-false i j n (sym h))
@@ -54,11 +55,11 @@ ids-cleared (r ∷ l) = ids-cleared l
 -- an id that is not held goes into a free record: the map has it, and all else as before
 pub lookup-entered : (l : List Record) (i : ℕ) (q : Request) (j : ℕ) → any isFree l ≡ true → any (holdsId i) l ≡ false
     → lookup (replace isFree (Held i q) l) j ≡ cond (eqb i j) (some q) (lookup l j)
-lookup-entered [] i q j f n = absurd (never (sym f))
+lookup-entered [] i q j f n = apart f
 lookup-entered (Free ∷ l) i q j f n = refl
 lookup-entered (Held a b ∷ l) i q j f n =
     ap (λ (o : Option Request). cond (eqb a j) (some b) o) (lookup-entered l i q j f (none-in (holdsId i) (Held a b) l n .1))
-    ∙ swap (eqb a j) (eqb i j) _ _ _ (apart a i j (none-in (holdsId i) (Held a b) l n .0))
+    ∙ swap (eqb a j) (eqb i j) _ _ _ (ids-differ a i j (none-in (holdsId i) (Held a b) l n .0))
 
 -- removing takes the id out of the map, and leaves all else as it was
 pub lookup-removed : (l : List Record) (i j : ℕ) → distinct l ≡ true → lookup (replace (holdsId i) Free l) j ≡ cond (eqb i j) none (lookup l j)
@@ -77,7 +78,7 @@ lookup-removed (Held a b ∷ l) i j d = by (eqb a i) refl (lookup-removed l i j 
     by : (q : Bool) → eqb a i ≡ q → lookup (replace (holdsId i) Free l) j ≡ cond (eqb i j) none (lookup l j)
         → lookup (cond q (Free ∷ l) (Held a b ∷ replace (holdsId i) Free l)) j ≡ cond (eqb i j) none (cond (eqb a j) (some b) (lookup l j))
     by true e h = gone (eqb i j) (eqb-true a i e) refl
-    by false e h = ap (λ (o : Option Request). cond (eqb a j) (some b) o) h ∙ swap (eqb a j) (eqb i j) _ _ _ (apart a i j e)
+    by false e h = ap (λ (o : Option Request). cond (eqb a j) (some b) o) h ∙ swap (eqb a j) (eqb i j) _ _ _ (ids-differ a i j e)
 
 -- removals of two ids may be made in either order: the records are the same
 pub remove-swap : (l : List Record) (i j : ℕ) → eqb i j ≡ false → replace (holdsId j) Free (replace (holdsId i) Free l) ≡ replace (holdsId i) Free (replace (holdsId j) Free l)

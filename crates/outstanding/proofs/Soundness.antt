@@ -11,7 +11,7 @@ use Rattle.outstanding_records.specs.declared.Record.the-variants.{Free, Held}
 use Rattle.outstanding.specs.Records.{isFree, holdsId, any, all, replace, distinct}
 use Rattle.outstanding_records.specs.Copies.{size}
 use Rattle.outstanding.specs.Calls.{typeBound, inBounds, sound, request}
-use Rattle.outstanding.proofs.Bools.{both}
+use Rattle.layout.proofs.Tests.{and-both}
 use Rattle.outstanding.proofs.Lists.{replace-length, all-replace, map-length}
 use Rattle.outstanding.proofs.Maps.{distinct-cleared, distinct-entered, distinct-removed}
 
@@ -23,8 +23,8 @@ pub record Sound (l : List Record) : Type 0 where
 pub sound-out : (l : List Record) → sound l ≡ true → Sound l
 unfolding sound
 sound-out l e =
-    let a = both (eqb (length l) size) _ e in
-    let b = both (all inBounds l) (distinct l) (a .1) in
+    let a = and-both (eqb (length l) size) _ e in
+    let b = and-both (all inBounds l) (distinct l) (a .1) in
     record { full-size = eqb-true _ _ (a .0); bounds = b .0; alone = b .1 }
 
 pub sound-in : (l : List Record) → Sound l → sound l ≡ true

@@ -6,7 +6,7 @@ use mathlib.Core.Option.{Option, none, some}
 use lib.Dec.{eqb, leb, ltb}
 use lib.ListN.{length}
 use Rattle.method.specs.Methods.{replyOffset}
-use Rattle.layout.specs.Limits.{unexpectedType}
+use Rattle.layout.specs.Refusals.{unexpectedType, idOutstanding, tableFull, idNotOutstanding, typeMismatch, unsoundTable}
 use Rattle.layout.specs.Table.{unknownResponse}
 use Rattle.layout.specs.Reading.{Answer, refused as not-read, accepted}
 use Rattle.outstanding_records.specs.Copies.{size}
@@ -20,21 +20,6 @@ use Rattle.outstanding.specs.Records.{isFree, holdsId, any, all, replace
 -- the types of requests lie below those of replies
 abbrev pub typeBound : ℕ
 typeBound = replyOffset
-
-abbrev pub idOutstanding : ℕ
-idOutstanding = 10
-
-abbrev pub tableFull : ℕ
-tableFull = 11
-
-abbrev pub idNotOutstanding : ℕ
-idNotOutstanding = 12
-
-abbrev pub typeMismatch : ℕ
-typeMismatch = 13
-
-abbrev pub unsoundTable : ℕ
-unsoundTable = 20
 
 -- ---- a sound table
 
@@ -60,11 +45,11 @@ after kept l = l
 after (entered i q) l = replace isFree (Held i q) l
 after (removed i) l = replace (holdsId i) Free l
 
-pub record Outcome (A : Type 0) : Type 0 where
+pub record CallOutcome (A : Type 0) : Type 0 where
   pub told : A
   pub change : Change
 
-abbrev pub outcome : {A : Type 0} → A → Change → Outcome A
+abbrev pub outcome : {A : Type 0} → A → Change → CallOutcome A
 outcome a c = record { told = a; change = c }
 
 -- a call on a table whose records are written as R: what it told, and the table afterwards
@@ -75,7 +60,7 @@ pub record Performed (A R : Type 0) : Type 0 where
 abbrev pub performed : {A R : Type 0} → A → List R → Performed A R
 performed a l = record { told = a; table = l }
 
-abbrev pub perform : {A : Type 0} → Outcome A → List Record → Performed A Record
+abbrev pub perform : {A : Type 0} → CallOutcome A → List Record → Performed A Record
 perform o l = performed (o .told) (after (o .change) l)
 
 -- refusals in their order: the number of the first test that holds
@@ -88,8 +73,8 @@ pub data Told : Type 0 where
   done : Told
   refused : ℕ → ℕ → Told
 
-abbrev pub refuse : ℕ → Outcome Told
-refuse n = outcome (refused n 0) kept
+abbrev pub refuseCall : ℕ → CallOutcome Told
+refuseCall n = outcome (refused n 0) kept
 
 -- ---- emptying frees every record, and asks only for their number
 
@@ -115,11 +100,11 @@ entryChecks l i t =
     ∷ []
 
 -- what entering comes to behind the first test
-unfoldable pub insert : List Record → ℕ → ℕ → Outcome Told
-insert l i t = checks (entryChecks l i t) refuse (outcome done (entered i (request t)))
+unfoldable pub insert : List Record → ℕ → ℕ → CallOutcome Told
+insert l i t = checks (entryChecks l i t) refuseCall (outcome done (entered i (request t)))
 
-unfoldable pub enter : List Record → ℕ → ℕ → Outcome Told
-enter l i t = checks (soundChecks l) refuse (insert l i t)
+unfoldable pub enter : List Record → ℕ → ℕ → CallOutcome Told
+enter l i t = checks (soundChecks l) refuseCall (insert l i t)
 
 -- ---- an arriving reply, by the answer of its reader
 
@@ -133,7 +118,7 @@ pub data Arrival : Type 0 where
   answered : Answer → Arrival
   refused-reply : ℕ → ℕ → Arrival
 
-abbrev pub refuseReply : ℕ → Outcome Arrival
+abbrev pub refuseReply : ℕ → CallOutcome Arrival
 refuseReply n = outcome (refused-reply n 0) kept
 
 abbrev pub replyChecks : List Record → ℕ → ℕ → List (Bool × ℕ)
@@ -143,15 +128,15 @@ replyChecks l i t =
     ∷ []
 
 -- a reply with this id and type, which its reader accepted with this answer
-unfoldable pub settleAccepted : List Record → ℕ → ℕ → Answer → Outcome Arrival
+unfoldable pub settleAccepted : List Record → ℕ → ℕ → Answer → CallOutcome Arrival
 settleAccepted l i t a = checks (replyChecks l i t) refuseReply (outcome (answered a) (removed i))
 
 -- what an arriving reply comes to behind the first test
-abbrev pub settle : List Record → Answer → Outcome Arrival
+abbrev pub settle : List Record → Answer → CallOutcome Arrival
 settle l (not-read n p) = outcome (refused-reply n p) kept
 settle l (accepted s i t vs k) = settleAccepted l i t (accepted s i t vs k)
 
-unfoldable pub arrive : List Record → Answer → Outcome Arrival
+unfoldable pub arrive : List Record → Answer → CallOutcome Arrival
 arrive l a = checks (soundChecks l) refuseReply (settle l a)
 
 -- ---- a look: how many are outstanding, and the request of an id

@@ -5,8 +5,8 @@ ghost use mathlib.Core.List.{map};
 ghost use Rattle.layout.specs.Table.{reply as reply·side};
 ghost use Rattle.layout.specs.Reading.{read};
 ghost use Rattle.outstanding.specs.Calls.{perform, empty as empty·in, enter as enter·in, arrive as arrive·in};
-ghost use Rattle.outstanding_decisions.specs.Decisions.{toldOf, arrivalOf};
 ghost use Rattle.outstanding_words.specs.Words.{wordOf};
+ghost use Rattle.outstanding_bridges.specs.Afterwards.{EnteredAfter, ArrivedAfter};
 use outstanding_decisions::Arrived;
 use outstanding_decisions::Entered;
 use outstanding_records::Record;
@@ -39,7 +39,7 @@ fn after_arrival(answer: Arrived, table: [Record; 64]) -> ArrivedTable
 
 // Frees every record.
 pub fn empty(table: [Record; 64]) -> EnteredTable
-    ensures { λ r. ⌜ (toldOf (r .answer) ≡ empty·in Record.Free table .told) × (r .words ≡ map wordOf (empty·in Record.Free table .table)) ⌝ }
+    ensures { λ r. ⌜ EnteredAfter (empty·in Record.Free table) r ⌝ }
 {
     let mut records = table;
     let answer = outstanding_table::empty(&mut records);
@@ -48,7 +48,7 @@ pub fn empty(table: [Record; 64]) -> EnteredTable
 
 // Enters a request by its id and type, into the first free record.
 pub fn enter(table: [Record; 64], id: u32, type_number: u8) -> EnteredTable
-    ensures { λ r. ⌜ (toldOf (r .answer) ≡ enter·in table id «type_number» .told) × (r .words ≡ map wordOf (perform (enter·in table id «type_number») table .table)) ⌝ }
+    ensures { λ r. ⌜ EnteredAfter (perform (enter·in table id «type_number») table) r ⌝ }
 {
     let mut records = table;
     let answer = outstanding_table::enter(&mut records, id, type_number);
@@ -57,8 +57,7 @@ pub fn enter(table: [Record; 64], id: u32, type_number: u8) -> EnteredTable
 
 // Takes an arriving reply: what its reader answers, and its record is free; or a refusal, and no record has changed.
 pub fn arrive(table: [Record; 64], message: &[u8]) -> ArrivedTable
-    ensures { λ r. ⌜ (arrivalOf (now (message .entry)) (r .answer) ≡ arrive·in table (read reply·side (now (message .entry))) .told)
-        × (r .words ≡ map wordOf (perform (arrive·in table (read reply·side (now (message .entry)))) table .table)) ⌝ }
+    ensures { λ r. ⌜ ArrivedAfter (now (message .entry)) (perform (arrive·in table (read reply·side (now (message .entry)))) table) r ⌝ }
 {
     let mut records = table;
     let answer = outstanding_table::arrive(&mut records, message);

@@ -13,7 +13,8 @@ use Rattle.layout.specs.Reading.{Shape, Answer, refused as not-read, accepted}
 use Rattle.outstanding_records.specs.declared.Request.{Request}
 use Rattle.outstanding_records.specs.declared.Record.{Record}
 use Rattle.outstanding.specs.Records.{isFree, holdsId, any, all, lookup, ids, isSome}
-use Rattle.outstanding.specs.Calls.{typeBound, idNotOutstanding, inBounds, sound, request, removed, after, Outcome, outcome, enter, Arrival, answered, arrive, seen, look}
+use Rattle.layout.specs.Refusals.{idNotOutstanding}
+use Rattle.outstanding.specs.Calls.{typeBound, inBounds, sound, request, removed, after, CallOutcome, outcome, enter, Arrival, answered, arrive, seen, look}
 use Rattle.outstanding.proofs.Cases.{arrive-sound, settle-not-outstanding, look-sound, look-unsound}
 use Rattle.outstanding.proofs.Maps.{lookup-removed, held-some, free-left}
 use Rattle.outstanding.proofs.Soundness.{Sound, sound-out, sound-in, sound-removed}
@@ -42,16 +43,16 @@ Shown l a = readingOf (shownOf (arrive l a .told)) .shape ≡ 0 → ⊥
 taken : (l : List Record) (a : Answer) → Shown l a → Taken l a
 taken l a = go (arriving l a) refl
   where
-    go : {x : Answer} {o : Outcome Arrival} → Arriving l x o → arrive l x ≡ o → (readingOf (shownOf (o .told)) .shape ≡ 0 → ⊥) → Taken l x
+    go : {x : Answer} {o : CallOutcome Arrival} → Arriving l x o → arrive l x ≡ o → (readingOf (shownOf (o .told)) .shape ≡ 0 → ⊥) → Taken l x
     go (stopped n p) e h = absurd (h refl)
     go (passed q ok held found g) e h = takes ok e
 
 -- then the words left are those of the records left
 followed : (ws : List ℕ) {a : Answer} → Taken (records ws) a → records (left ws a) ≡ arrived-table (records ws) a
-followed ws (takes {i = i} ok e) = ap (λ (o : Outcome Arrival). records (afterWords (o .change) ws)) e ∙ records-after (removed i) ws tt ∙ sym (ap (λ (o : Outcome Arrival). after (o .change) (records ws)) e)
+followed ws (takes {i = i} ok e) = ap (λ (o : CallOutcome Arrival). records (afterWords (o .change) ws)) e ∙ records-after (removed i) ws tt ∙ sym (ap (λ (o : CallOutcome Arrival). after (o .change) (records ws)) e)
 
 told : {l : List Record} {a : Answer} → Taken l a → arrive l a .told ≡ answered a
-told (takes ok e) = ap (λ (o : Outcome Arrival). o .told) e
+told (takes ok e) = ap (λ (o : CallOutcome Arrival). o .told) e
 
 is-sound : {l : List Record} {a : Answer} → Taken l a → Sound l
 is-sound (takes ok e) = ok
@@ -93,7 +94,7 @@ module _ (ws : List ℕ) where
   -- the second is answered behind the first as it is alone
   one-order : {a b : Answer} → Taken (records ws) a → Taken (records ws) b → (readingOf (shown ws a) .id ≡ readingOf (shown ws b) .id → ⊥) → arrive (records (left ws a)) b ≡ arrive (records ws) b
   one-order (takes {s} {i} {t} {k} {vs} ok e) (takes {s = s′} {i = i′} {t = t′} {k = k′} {vs = vs′} ok′ e′) d =
-      let differ : i ≡ i′ → ⊥ = λ f. d (ap (λ (o : Outcome Arrival). readingOf (shownOf (o .told)) .id) e ∙ f ∙ sym (ap (λ (o : Outcome Arrival). readingOf (shownOf (o .told)) .id) e′)) in
+      let differ : i ≡ i′ → ⊥ = λ f. d (ap (λ (o : CallOutcome Arrival). readingOf (shownOf (o .told)) .id) e ∙ f ∙ sym (ap (λ (o : CallOutcome Arrival). readingOf (shownOf (o .told)) .id) e′)) in
       ap (λ (l : List Record). arrive l (accepted s′ i′ t′ vs′ k′)) (followed ws (takes ok e)) ∙ still-answered (records ws) s s′ i i′ t t′ k k′ vs vs′ (ne-eqb i i′ differ) (told (takes ok e)) (told (takes ok′ e′))
 
   -- so it is taken there too
@@ -108,7 +109,7 @@ module _ (ws : List ℕ) where
       let b = accepted s′ i′ t′ vs′ k′ in
       let x = takes ok e in
       let y = takes ok′ e′ in
-      let differ : i ≡ i′ → ⊥ = λ f. d (ap (λ (o : Outcome Arrival). readingOf (shownOf (o .told)) .id) e ∙ f ∙ sym (ap (λ (o : Outcome Arrival). readingOf (shownOf (o .told)) .id) e′)) in
+      let differ : i ≡ i′ → ⊥ = λ f. d (ap (λ (o : CallOutcome Arrival). readingOf (shownOf (o .told)) .id) e ∙ f ∙ sym (ap (λ (o : CallOutcome Arrival). readingOf (shownOf (o .told)) .id) e′)) in
       let behind = still-taken x y d in
       let before = still-taken y x (λ f. d (sym f)) in
       let one : records (left (left ws a) b) ≡ arrived-table (arrived-table (records ws) a) b = followed (left ws a) behind ∙ ap (λ (l : List Record). arrived-table l b) (followed ws x) in
@@ -133,10 +134,10 @@ either ws a b {r₁} {r₂} {r₃} {r₄} {ws₁} {ws₂} {xs₁} {xs₂} c₁ c
     differ e = d (ap (λ (r : TushaletsReading). r .id) (c₁ .0) ∙ e ∙ sym (ap (λ (r : TushaletsReading). r .id) (c₂ .0)))
 
     third : r₃ ≡ r₂
-    third = c₃ .0 ∙ ap (λ (v : List ℕ). readingOf (shown v b)) (c₁ .1) ∙ ap (λ (o : Outcome Arrival). readingOf (shownOf (o .told))) (one-order ws x y differ) ∙ sym (c₂ .0)
+    third = c₃ .0 ∙ ap (λ (v : List ℕ). readingOf (shown v b)) (c₁ .1) ∙ ap (λ (o : CallOutcome Arrival). readingOf (shownOf (o .told))) (one-order ws x y differ) ∙ sym (c₂ .0)
 
     fourth : r₄ ≡ r₁
-    fourth = c₄ .0 ∙ ap (λ (v : List ℕ). readingOf (shown v a)) (c₂ .1) ∙ ap (λ (o : Outcome Arrival). readingOf (shownOf (o .told))) (one-order ws y x (λ e. differ (sym e))) ∙ sym (c₁ .0)
+    fourth = c₄ .0 ∙ ap (λ (v : List ℕ). readingOf (shown v a)) (c₂ .1) ∙ ap (λ (o : CallOutcome Arrival). readingOf (shownOf (o .told))) (one-order ws y x (λ e. differ (sym e))) ∙ sym (c₁ .0)
 
     words : ws₂ ≡ xs₂
     words = c₃ .1 ∙ ap (λ (v : List ℕ). left v b) (c₁ .1) ∙ both-orders ws x y differ ∙ sym (ap (λ (v : List ℕ). left v a) (c₂ .1)) ∙ sym (c₄ .1)

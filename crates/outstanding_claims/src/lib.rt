@@ -3,7 +3,8 @@
 ghost use mathlib.Core.Path.{_≡_};
 ghost use Prim.Native.Nat.{_<_};
 ghost use Rattle.layout.specs.Reading.{refused as refused·answer};
-ghost use Rattle.outstanding.specs.Calls.{typeBound, idNotOutstanding};
+ghost use Rattle.layout.specs.Refusals.{idNotOutstanding};
+ghost use Rattle.outstanding.specs.Calls.{typeBound};
 ghost use Rattle.exports.specs.Shown.{readingOf};
 use exports::TushaletsReading;
 use exports_outstanding::TushaletsLooked;

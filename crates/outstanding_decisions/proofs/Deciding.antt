@@ -20,14 +20,14 @@ use Rattle.reply_reader.specs.declared.ReplyAnswer.{ReplyAnswer}
 use Rattle.reply_reader.specs.declared.ReplyAnswer.the-variants as reply′
 use Rattle.reply_reader.specs.Answers.{answerOf}
 use Rattle.outstanding.specs.Records.{isFree, holdsId, any, first, lookup}
-use Rattle.outstanding.specs.Calls.{Change, kept, entered, removed, after, Outcome, outcome, performed, perform, refused-reply, settleAccepted, settle}
+use Rattle.outstanding.specs.Calls.{Change, kept, entered, removed, after, CallOutcome, outcome, performed, perform, refused-reply, settleAccepted, settle}
 use Rattle.outstanding.proofs.Lists.{replace-set, is-found, not-found, map-length, getD-map}
 use Rattle.outstanding_words.specs.Words.{recordOf, records}
 use Rattle.outstanding_decisions.specs.declared.Reading.the-variants as R
 use Rattle.outstanding_decisions.specs.Decisions.{place, stored, Decided, requestIn, readingOf}
 
 -- a refusal stores nothing
-pub stops : {A : Type 0} {l : List Record} {a x : A} {at : ℕ} {r : Record} {o : Outcome A} → a ≡ x → at ≡ length l → r ≡ Free → o ≡ outcome x kept → Decided l a at r o
+pub stops : {A : Type 0} {l : List Record} {a x : A} {at : ℕ} {r : Record} {o : CallOutcome A} → a ≡ x → at ≡ length l → r ≡ Free → o ≡ outcome x kept → Decided l a at r o
 stops {A} {l} {a} {x} {at} {r} {o} e f g h = rw h (record { tells = e; stands = f; stores = g })
 
 -- the map at an id is what its first holder says
@@ -61,7 +61,7 @@ module _ (l : List Record) (m : List ℕ) where
   settle-refused (reply′.Refused n′ p′) n p e f = let same : n′ ≡ n = cc in let at : p′ ≡ p = cc in rw (sym same, sym at) (ap (settle l) (sym e))
 
 -- what is decided is what the call comes to, once the record is stored
-pub performs : {A : Type 0} {l : List Record} {a : A} {at : ℕ} {r : Record} {o : Outcome A} → Decided l a at r o → performed a (set l at r) ≡ perform o l
+pub performs : {A : Type 0} {l : List Record} {a : A} {at : ℕ} {r : Record} {o : CallOutcome A} → Decided l a at r o → performed a (set l at r) ≡ perform o l
 performs {A} {l} {a} {at} {r} {o} d = rw (d .tells, d .stands, d .stores) (ap (performed (o .told)) (by (o .change)))
   where
     by : (c : Change) → set l (place c l) (stored c) ≡ after c l
@@ -73,7 +73,7 @@ performs {A} {l} {a} {at} {r} {o} d = rw (d .tells, d .stands, d .stores) (ap (p
 
 module _ (ws : List ℕ) where
   -- a refusal stores nothing
-  pub stops-in : {A : Type 0} {a x : A} {at : ℕ} {r : Record} {o : Outcome A} → a ≡ x → at ≡ length ws → r ≡ Free → o ≡ outcome x kept → Decided (records ws) a at r o
+  pub stops-in : {A : Type 0} {a x : A} {at : ℕ} {r : Record} {o : CallOutcome A} → a ≡ x → at ≡ length ws → r ≡ Free → o ≡ outcome x kept → Decided (records ws) a at r o
   stops-in e f g h = stops e (f ∙ sym (map-length recordOf ws)) g h
 
   -- a search ends inside exactly where it finds something

@@ -11,7 +11,7 @@ use Rattle.reply_reader.specs.declared.ReplyAnswer.{ReplyAnswer}
 use Rattle.reply_reader.specs.declared.ReplyAnswer.the-variants as reply
 use Rattle.reply_reader.specs.Answers.{answerOf}
 use Rattle.outstanding.specs.Records.{isFree, holdsId, first}
-use Rattle.outstanding.specs.Calls.{Change, kept, entered, removed, Outcome, Told, done, refused, Arrival, answered, refused-reply, Looked as Shown, seen, not-seen}
+use Rattle.outstanding.specs.Calls.{Change, kept, entered, removed, CallOutcome, Told, done, refused, Arrival, answered, refused-reply, Looked as Shown, seen, not-seen}
 use Rattle.outstanding_decisions.specs.declared.Entered.{Entered}
 use Rattle.outstanding_decisions.specs.declared.Entered.the-variants as E
 use Rattle.outstanding_decisions.specs.declared.Arrived.{Arrived}
@@ -20,6 +20,8 @@ use Rattle.outstanding_decisions.specs.declared.Found.{Found}
 use Rattle.outstanding_decisions.specs.declared.Found.the-variants as F
 use Rattle.outstanding_decisions.specs.declared.Looked.{Looked}
 use Rattle.outstanding_decisions.specs.declared.Looked.the-variants as L
+use Rattle.outstanding_decisions.specs.declared.Entry.{Entry}
+use Rattle.outstanding_decisions.specs.declared.Removal.{Removal}
 use Rattle.outstanding_decisions.specs.declared.Reading.{Reading}
 use Rattle.outstanding_decisions.specs.declared.Reading.the-variants as R
 
@@ -54,10 +56,17 @@ stored (entered i q) = Held i q
 stored (removed i) = Free
 
 -- the answer a, and the record r stored at a place, are what the outcome o of a call on the records l says
-pub record Decided {A : Type 0} (l : List Record) (a : A) (at : ℕ) (r : Record) (o : Outcome A) : Type 0 where
+pub record Decided {A : Type 0} (l : List Record) (a : A) (at : ℕ) (r : Record) (o : CallOutcome A) : Type 0 where
   pub tells : a ≡ o .told
   pub stands : at ≡ place (o .change) l
   pub stores : r ≡ stored (o .change)
+
+-- an entry that was decided on the records l, and a removal for the message m
+abbrev pub EntryDecided : List Record → Entry → CallOutcome Told → Type 0
+EntryDecided l e o = Decided l (toldOf (e .answer)) (e .at) (e .record) o
+
+abbrev pub RemovalDecided : List Record → List ℕ → Removal → CallOutcome Arrival → Type 0
+RemovalDecided l m c o = Decided l (arrivalOf m (c .answer)) (c .at) Free o
 
 -- what a record says of a request
 abbrev pub requestIn : Record → Option Request

@@ -12,49 +12,46 @@ ghost use Rattle.reply_reader.specs.Answers.{answerOf};
 ghost use Rattle.outstanding_records.specs.declared.Record.{Record as Record·type};
 ghost use Rattle.outstanding_records.specs.Copies.{Copied};
 ghost use Rattle.outstanding.specs.Records.{lookup};
-ghost use Rattle.outstanding.specs.Calls.{request as request·of, refused as refused·told, insert as insert·in, enter as enter·in, answers as answers·to, settleAccepted, settle as settle·in, arrive as arrive·in, look as look·at, not-seen as not·seen, unsoundTable};
+ghost use Rattle.layout.specs.Refusals.{unsoundTable};
+ghost use Rattle.outstanding.specs.Calls.{request as request·of, refused as refused·told, insert as insert·in, enter as enter·in, answers as answers·to, settleAccepted, settle as settle·in, arrive as arrive·in, look as look·at, not-seen as not·seen};
 ghost use Rattle.outstanding_words.specs.Words.{records as records·of};
-ghost use Rattle.outstanding_decisions.specs.Decisions.{toldOf, arrivalOf, foundOf, lookedOf, requestIn, readingOf, Decided};
+ghost use Rattle.outstanding_decisions.specs.Decisions.{toldOf, foundOf, lookedOf, EntryDecided, RemovalDecided, requestIn, readingOf};
 use method::Method;
 use outstanding_records::Record;
 use outstanding_records::Request;
 use outstanding_records::SIZE;
 use reply_reader::ReplyAnswer;
-
-// Numbers of refusal.
-pub const UNEXPECTED_TYPE: u8 = 3;
-
-pub const ID_OUTSTANDING: u8 = 10;
-
-pub const TABLE_FULL: u8 = 11;
-
-pub const ID_NOT_OUTSTANDING: u8 = 12;
-
-pub const TYPE_MISMATCH: u8 = 13;
-
-pub const UNSOUND_TABLE: u8 = 20;
+use wire::Refusal;
 
 // What emptying and entering answer.
 pub enum Entered {
+    // It was done.
     Done,
+    // A number of refusal, and its place.
     Refused { number: u8, place: usize },
 }
 
 // What an arriving reply answers: all that its reader shows of it, or a refusal.
 pub enum Arrived {
+    // The reply answers an outstanding request, which is no longer outstanding.
     Answered { answer: ReplyAnswer },
+    // A number of refusal, and its place.
     Refused { number: u8, place: usize },
 }
 
 // The request of an id that was looked for.
 pub enum Found {
+    // No request with this id is outstanding.
     NotOutstanding,
+    // This one is.
     Outstanding { request: Request },
 }
 
 // What a look shows: how many requests are outstanding, and that of one id.
 pub enum Looked {
+    // So many requests are outstanding, and what was found of the id.
     Seen { count: usize, found: Found },
+    // A number of refusal, and its place.
     Refused { number: u8, place: usize },
 }
 
@@ -85,18 +82,18 @@ fn refused_entry(len: usize, number: u8) -> Entry
 
 // What entering an id and a type comes to behind the test of soundness, for every table.
 pub fn insert(words: &[u64], id: u32, type_number: u8) -> Entry
-    ensures { λ e. ⌜ Decided (records·of (now (words .entry))) (toldOf (e .answer)) (e .at) (e .record) (insert·in (records·of (now (words .entry))) id «type_number») ⌝ }
+    ensures { λ e. ⌜ EntryDecided (records·of (now (words .entry))) e (insert·in (records·of (now (words .entry))) id «type_number») ⌝ }
 {
     let len = words.len();
     if type_number >= Method::REPLY_OFFSET {
-        return refused_entry(len, UNEXPECTED_TYPE);
+        return refused_entry(len, Refusal::UNEXPECTED_TYPE);
     }
     if outstanding_words::find_id(words, id) < len {
-        return refused_entry(len, ID_OUTSTANDING);
+        return refused_entry(len, Refusal::ID_OUTSTANDING);
     }
     let at = outstanding_words::find_free(words);
     if at >= len {
-        return refused_entry(len, TABLE_FULL);
+        return refused_entry(len, Refusal::TABLE_FULL);
     }
     let request = Request { type_number };
     Entry {
@@ -108,10 +105,10 @@ pub fn insert(words: &[u64], id: u32, type_number: u8) -> Entry
 
 // What entering an id and a type comes to.
 pub fn enter(words: &[u64], id: u32, type_number: u8) -> Entry
-    ensures { λ e. ⌜ Decided (records·of (now (words .entry))) (toldOf (e .answer)) (e .at) (e .record) (enter·in (records·of (now (words .entry))) id «type_number») ⌝ }
+    ensures { λ e. ⌜ EntryDecided (records·of (now (words .entry))) e (enter·in (records·of (now (words .entry))) id «type_number») ⌝ }
 {
     if !outstanding_words::is_sound(words) {
-        return refused_entry(words.len(), UNSOUND_TABLE);
+        return refused_entry(words.len(), Refusal::UNSOUND_TABLE);
     }
     insert(words, id, type_number)
 }
@@ -119,10 +116,10 @@ pub fn enter(words: &[u64], id: u32, type_number: u8) -> Entry
 // The same for `len` records of which `table` is a copy.
 pub fn decide_entry(len: usize, table: [Record; 64], id: u32, type_number: u8) -> Entry
     ensures { λ e. ⌜ ((l : List Record·type) → length l ≡ len → Copied l table
-        → Decided l (toldOf (e .answer)) (e .at) (e .record) (enter·in l id «type_number»)) ⌝ }
+        → EntryDecided l e (enter·in l id «type_number»)) ⌝ }
 {
     if len != SIZE {
-        return refused_entry(len, UNSOUND_TABLE);
+        return refused_entry(len, Refusal::UNSOUND_TABLE);
     }
     let words = outstanding_words::words_of(table);
     enter(&words, id, type_number)
@@ -176,16 +173,16 @@ fn refused_removal(len: usize, number: u8, place: usize) -> Removal
 
 // What a reply with this id and type comes to, which its reader accepted.
 fn settle_accepted(words: &[u64], id: u32, type_number: u8, answer: ReplyAnswer) -> Removal
-    ensures { λ c. ⌜ ((m : List ℕ) → Decided (records·of (now (words .entry))) (arrivalOf m (c .answer)) (c .at) Record.Free
+    ensures { λ c. ⌜ ((m : List ℕ) → RemovalDecided (records·of (now (words .entry))) m c
         (settleAccepted (records·of (now (words .entry))) id «type_number» (answerOf m answer))) ⌝ }
 {
     let len = words.len();
     let at = outstanding_words::find_id(words, id);
     if at >= len {
-        return refused_removal(len, ID_NOT_OUTSTANDING, 0);
+        return refused_removal(len, Refusal::ID_NOT_OUTSTANDING, 0);
     }
     if !answers(outstanding_words::record_of(words[at]), type_number) {
-        return refused_removal(len, TYPE_MISMATCH, 0);
+        return refused_removal(len, Refusal::TYPE_MISMATCH, 0);
     }
     Removal {
         at,
@@ -195,24 +192,26 @@ fn settle_accepted(words: &[u64], id: u32, type_number: u8, answer: ReplyAnswer)
 
 // What an arriving reply comes to behind the test of soundness, for every table.
 pub fn settle(words: &[u64], message: &[u8]) -> Removal
-    ensures { λ c. ⌜ Decided (records·of (now (words .entry))) (arrivalOf (now (message .entry)) (c .answer)) (c .at) Record.Free
+    ensures { λ c. ⌜ RemovalDecided (records·of (now (words .entry))) (now (message .entry)) c
         (settle·in (records·of (now (words .entry))) (read reply·side (now (message .entry)))) ⌝ }
 {
     let answer = reply_reader::read_reply(message);
     let reading = reading_of(answer);
     match reading {
-        Reading::Accepted { id } => { settle_accepted(words, id, field::type_of(message), answer) }
+        Reading::Accepted { id } => {
+            settle_accepted(words, id, field_reader::type_of(message), answer)
+        }
         Reading::Refused { number, place } => refused_removal(words.len(), number, place),
     }
 }
 
 // What an arriving reply comes to.
 pub fn arrive(words: &[u64], message: &[u8]) -> Removal
-    ensures { λ c. ⌜ Decided (records·of (now (words .entry))) (arrivalOf (now (message .entry)) (c .answer)) (c .at) Record.Free
+    ensures { λ c. ⌜ RemovalDecided (records·of (now (words .entry))) (now (message .entry)) c
         (arrive·in (records·of (now (words .entry))) (read reply·side (now (message .entry)))) ⌝ }
 {
     if !outstanding_words::is_sound(words) {
-        return refused_removal(words.len(), UNSOUND_TABLE, 0);
+        return refused_removal(words.len(), Refusal::UNSOUND_TABLE, 0);
     }
     settle(words, message)
 }
@@ -220,10 +219,10 @@ pub fn arrive(words: &[u64], message: &[u8]) -> Removal
 // The same for `len` records of which `table` is a copy.
 pub fn decide_arrival(len: usize, table: [Record; 64], message: &[u8]) -> Removal
     ensures { λ c. ⌜ ((l : List Record·type) → length l ≡ len → Copied l table
-        → Decided l (arrivalOf (now (message .entry)) (c .answer)) (c .at) Record.Free (arrive·in l (read reply·side (now (message .entry))))) ⌝ }
+        → RemovalDecided l (now (message .entry)) c (arrive·in l (read reply·side (now (message .entry))))) ⌝ }
 {
     if len != SIZE {
-        return refused_removal(len, UNSOUND_TABLE, 0);
+        return refused_removal(len, Refusal::UNSOUND_TABLE, 0);
     }
     let words = outstanding_words::words_of(table);
     arrive(&words, message)
@@ -235,7 +234,7 @@ fn refused_look() -> Looked
     ensures { λ r. ⌜ lookedOf r ≡ not·seen unsoundTable 0 ⌝ }
 {
     Looked::Refused {
-        number: UNSOUND_TABLE,
+        number: Refusal::UNSOUND_TABLE,
         place: 0,
     }
 }

@@ -12,9 +12,11 @@ pub struct Request {
     pub type_number: u8,
 }
 
-// A record is free, or holds a request under its id.
+// A record of the table.
 pub enum Record {
+    // It holds no request.
     Free,
+    // It holds a request under its id.
     Held { id: u32, request: Request },
 }
 

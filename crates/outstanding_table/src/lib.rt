@@ -10,6 +10,7 @@ use outstanding_decisions::Arrived;
 use outstanding_decisions::Entered;
 use outstanding_decisions::Looked;
 use outstanding_records::Record;
+use wire::Refusal;
 
 // Frees every record.
 pub fn empty(records: &mut [Record]) -> Entered
@@ -17,7 +18,7 @@ pub fn empty(records: &mut [Record]) -> Entered
 {
     if records.len() != outstanding_records::SIZE {
         return Entered::Refused {
-            number: outstanding_decisions::UNSOUND_TABLE,
+            number: Refusal::UNSOUND_TABLE,
             place: 0,
         };
     }

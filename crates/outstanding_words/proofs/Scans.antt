@@ -12,7 +12,7 @@ use Rattle.outstanding.specs.Records.{isFree, sameId, any, all, first, distinct
 use Rattle.outstanding_records.specs.Copies.{size}
 use Rattle.outstanding.specs.Calls.{inBounds, sound}
 use Rattle.outstanding.proofs.Cases.{other-size}
-use Rattle.outstanding.proofs.Bools.{never}
+use Rattle.layout.proofs.Tests.{apart}
 use Rattle.outstanding.proofs.Maps.{free-alone}
 use Rattle.outstanding.proofs.Lists.{from-here, map-length, getD-map}
 use Rattle.outstanding_words.specs.Words.{recordOf, records}
@@ -67,7 +67,7 @@ module _ (ws : List ℕ) (i : ℕ) (h : i < length ws) where
     where
       by : (r : Record) → isFree r ≡ true → soundly (r ∷ left ws (i + 1)) ≡ soundly (left ws (i + 1))
       by Free f = rw (free-alone (left ws (i + 1)))
-      by (Held j q) f = absurd (never (sym f))
+      by (Held j q) f = apart f
 
   pub scan-later : inBounds here ≡ true → any (sameId here) (left ws (i + 1)) ≡ false → soundly (left ws i) ≡ soundly (left ws (i + 1))
   scan-later e f = rw (left-here, e, f)

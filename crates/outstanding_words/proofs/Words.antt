@@ -10,7 +10,7 @@ use Rattle.outstanding_records.specs.declared.Record.{Record}
 use Rattle.outstanding_records.specs.declared.Record.the-variants.{Free, Held}
 use Rattle.outstanding.specs.Records.{isFree, holdsId, sameId, all, replace}
 use Rattle.outstanding.specs.Calls.{typeBound, inBounds, Change, kept, entered, removed, after, request}
-use Rattle.outstanding.proofs.Bools.{never}
+use Rattle.layout.proofs.Tests.{apart}
 use Rattle.outstanding.proofs.Lists.{all-in, replace-map}
 use Rattle.outstanding_words.specs.Words.{typeUnit, tenantUnit, byte, heldMark, wordOf, isHeld, noType, typeIn, recordOf, records, afterWords}
 
@@ -46,7 +46,7 @@ word-of-read w h = by (eqb w 0) (isHeld w) refl refl h
         → wordOf (cond b Free (Held (w % typeUnit) (request (cond c (w / typeUnit % byte) noType)))) ≡ w
     by true c e f g = sym (eqb-true w 0 e)
     by false true e f g = let top : w / tenantUnit ≡ heldMark / tenantUnit = eqb-true _ _ f in omega arith
-    by false false e f g = absurd (never (sym g))
+    by false false e f g = apart g
 
 -- a word that no record gives is no record of a sound table
 pub stray-out : (w : ℕ) → ((r : Record) → wordOf r ≡ w → ⊥) → inBounds (recordOf w) ≡ false

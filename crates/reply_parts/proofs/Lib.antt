@@ -1,1 +1,2 @@
 mod Nameless
+mod Runless

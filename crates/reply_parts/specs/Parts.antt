@@ -7,7 +7,7 @@ use Rattle.layout.specs.Table.{reply}
 use Rattle.layout.specs.Values.{Part, signed}
 use Rattle.layout.specs.Reading.{Answer}
 use Rattle.layout.specs.Parts.{nothing, named, fieldsOf, partNamed}
-use Rattle.field.specs.Cursors.{partOf}
+use Rattle.wire.specs.Runs.{partOf}
 use Rattle.reply_reader.specs.declared.Reply.{Reply}
 use Rattle.reply_parts.specs.declared.Runs.{Runs}
 use Rattle.reply_reader.specs.Answers.{typeOf, valuesOf}

@@ -5,12 +5,12 @@ ghost use Prim.Native.Nat.{ℕ};
 ghost use lib.IntN.{ℤ};
 ghost use Rattle.layout.specs.Table.{reply as reply·side};
 ghost use Rattle.layout.specs.Parts.{partNamed};
-ghost use Rattle.field.specs.Cursors.{partOf, Shows};
+ghost use Rattle.wire.specs.Runs.{partOf, Shows};
 ghost use Rattle.reply_reader.specs.Answers.{answerOf};
 ghost use Rattle.reply_parts.specs.Parts.{partsOf, partsNamed, partsOfReply, onlyResolved, onlyData, onlyCreds, noParts};
-use field::Run;
 use reply_reader::Reply;
 use reply_reader::ReplyAnswer;
+use wire::Run;
 
 // The runs of a reply by the names of its fields; a run that it does not have is empty.
 struct Runs {
@@ -22,7 +22,7 @@ struct Runs {
 fn no_runs() -> Runs
     ensures { λ r. ⌜ partsOf r ≡ noParts ⌝ }
 {
-    let none = Run { start: 0, len: 0 };
+    let none = Run::EMPTY;
     Runs {
         resolved: none,
         data: none,
@@ -33,7 +33,7 @@ fn no_runs() -> Runs
 fn only_resolved(resolved: Run) -> Runs
     ensures { λ r. ⌜ partsOf r ≡ onlyResolved (partOf resolved) ⌝ }
 {
-    let none = Run { start: 0, len: 0 };
+    let none = Run::EMPTY;
     Runs {
         resolved,
         data: none,
@@ -44,7 +44,7 @@ fn only_resolved(resolved: Run) -> Runs
 fn only_data(data: Run) -> Runs
     ensures { λ r. ⌜ partsOf r ≡ onlyData (partOf «data») ⌝ }
 {
-    let none = Run { start: 0, len: 0 };
+    let none = Run::EMPTY;
     Runs {
         resolved: none,
         data,
@@ -55,7 +55,7 @@ fn only_data(data: Run) -> Runs
 fn only_creds(creds: Run) -> Runs
     ensures { λ r. ⌜ partsOf r ≡ onlyCreds (partOf creds) ⌝ }
 {
-    let none = Run { start: 0, len: 0 };
+    let none = Run::EMPTY;
     Runs {
         resolved: none,
         data: none,
@@ -63,33 +63,17 @@ fn only_creds(creds: Run) -> Runs
     }
 }
 
+// The runs of a success: only readlink and read have one.
 fn runs_of_reply(reply: Reply) -> Runs
     ensures { λ r. ⌜ ((m : List ℕ) (z : ℤ) → partsOf r ≡ partsOfReply m z reply) ⌝ }
 {
-    match reply {
-        Reply::Readlink { resolved } => only_resolved(resolved),
-        Reply::Read { data } => only_data(data),
-        Reply::Access => no_runs(),
-        Reply::Getattr { .. } => no_runs(),
-        Reply::Symlink => no_runs(),
-        Reply::Link => no_runs(),
-        Reply::Rename => no_runs(),
-        Reply::Chmod => no_runs(),
-        Reply::Chown => no_runs(),
-        Reply::Truncate => no_runs(),
-        Reply::Fsync => no_runs(),
-        Reply::Open { .. } => no_runs(),
-        Reply::Mknod => no_runs(),
-        Reply::Create { .. } => no_runs(),
-        Reply::Release => no_runs(),
-        Reply::Unlink => no_runs(),
-        Reply::Write => no_runs(),
-        Reply::Mkdir => no_runs(),
-        Reply::Readdir { .. } => no_runs(),
-        Reply::Rmdir => no_runs(),
-        Reply::Statfs { .. } => no_runs(),
-        Reply::Utimens => no_runs(),
+    if let Reply::Readlink { resolved } = reply {
+        return only_resolved(resolved);
     }
+    if let Reply::Read { data } = reply {
+        return only_data(data);
+    }
+    no_runs()
 }
 
 fn runs_of(m: &[u8], answer: ReplyAnswer) -> Runs
@@ -104,25 +88,27 @@ fn runs_of(m: &[u8], answer: ReplyAnswer) -> Runs
     }
 }
 
-// The bytes of the text and of the data, as a part of the message that was answered so. A message without that field, and one that
-// was refused, gives the empty part.
+// The bytes of the resolved path of a readlink reply, as a part of the message that was answered so. Here and below a message without that field,
+// and one that was refused, gives the empty part.
 pub fn resolved<'a>(m: &'a [u8], answer: ReplyAnswer) -> &'a [u8]
     ensures { λ s. ⌜ Shows (m .entry) (partNamed reply·side "resolved" (answerOf (now (m .entry)) answer)) s ⌝ }
 {
     let runs = runs_of(m, answer);
-    field::bytes_of(m, runs.resolved)
+    wire::bytes_of(m, runs.resolved)
 }
 
+// The bytes of the data of a read reply.
 pub fn data<'a>(m: &'a [u8], answer: ReplyAnswer) -> &'a [u8]
     ensures { λ s. ⌜ Shows (m .entry) (partNamed reply·side "data" (answerOf (now (m .entry)) answer)) s ⌝ }
 {
     let runs = runs_of(m, answer);
-    field::bytes_of(m, runs.data)
+    wire::bytes_of(m, runs.data)
 }
 
+// The bytes of the creds of a getcreds reply.
 pub fn creds<'a>(m: &'a [u8], answer: ReplyAnswer) -> &'a [u8]
     ensures { λ s. ⌜ Shows (m .entry) (partNamed reply·side "creds" (answerOf (now (m .entry)) answer)) s ⌝ }
 {
     let runs = runs_of(m, answer);
-    field::bytes_of(m, runs.creds)
+    wire::bytes_of(m, runs.creds)
 }

@@ -12,18 +12,18 @@ use mir.Val.{SFits}
 use borrow.Author.Tests.{eq-eqb, ne-eqb, ltb-true}
 use Rattle.number.specs.TwosComplement.{signedOf}
 use Rattle.layout.specs.Kinds.{i32, Kind, num}
+use Rattle.layout.specs.Refusals.{dataLengthMismatch}
 use Rattle.layout.specs.Table.{reply, plain, led, plan}
 use Rattle.layout.specs.Values.{Part, Value, signed}
-use Rattle.layout.specs.Reading.{Outcome, got, fail, followed, seq, mapped, numAt, fieldsAt, failure, success, Body, body, dataSize, succeeded, behindResult, bodyAt, message, Answer, refused, accepted, answer}
+use Rattle.layout.specs.Reading.{Outcome, got, fail, followed, seq, mapped, numAt, fieldsAt, failure, success, Body, body, dataSize, succeeded, behindResult, resultPlace, bodyAt, message, Answer, refused, accepted, answer}
 use Rattle.layout.specs.Parts.{nothing}
-use Rattle.field.specs.declared.Cursor.{Cursor}
-use Rattle.field.specs.Cursors.{outcome, from, Ended, Took, Reads}
-use Rattle.field.proofs.Cursors.{push, chain, map-ended, fields-ended}
+use Rattle.layout.proofs.Tests.{apart}
+use Rattle.wire.specs.declared.Cursor.{Cursor}
+use Rattle.wire.specs.Cursors.{refusalAt}
+use Rattle.field_reader.specs.Cursors.{outcomeAt, from, Ended, Took, Reads}
+use Rattle.field_reader.proofs.Cursors.{push, chain, map-ended, fields-ended}
 use Rattle.reply_reader.specs.declared.Reply.{Reply}
 use Rattle.reply_reader.specs.Answers.{typeOf, valuesOf, answerAt, successAt, Finished, Compared}
-
-never {ℓ} : {A : Type ℓ} → _≡_ {A = ℕ} 0 1 → A
-never z = let none : ⊥ = omega arith in absurd none
 
 -- ---- the sign of a result
 
@@ -34,11 +34,11 @@ below-zero (negsuc x) h = (x, refl)
 -- zero or more is its own magnitude
 pub zero-or-more : (z : ℤ) → ltZ z (pos 0) ≡ false → z ≡ pos (natAbs z)
 zero-or-more (pos n) h = refl
-zero-or-more (negsuc x) h = let y : _≡_ {A = ℕ} 0 1 = cc in never y
+zero-or-more (negsuc x) h = apart (sym h)
 
 pub small-result : (z : ℤ) → SFits w32 z → ltZ z (pos 0) ≡ false → natAbs z < 0x80000000
 small-result (pos n) f h = f .sfits
-small-result (negsuc x) f h = let y : _≡_ {A = ℕ} 0 1 = cc in never y
+small-result (negsuc x) f h = apart (sym h)
 
 -- ---- a success
 
@@ -66,7 +66,7 @@ answered-counted {m = m} {c = c} {d = d} {e = e} {i = i} {n = n} {t = t} {q = q}
 -- ---- a reply without a result
 
 pub answered-plain : {m : List ℕ} {c e : Cursor} (i t : ℕ) {ks : List Kind} {vs : List (Value Part)} → plan reply t ≡ plain ks → Reads m c ks vs e
-    → answer (outcome e (message i t (body success vs))) ≡ answerAt m c i t
+    → answer (outcomeAt e (message i t (body success vs))) ≡ answerAt m c i t
 unfolding answerAt
 answered-plain i t {ks = ks} p r =
     rw p (ap answer (map-ended (message i t) (mapped (body success) (fieldsAt ks)) (map-ended (body success) (fieldsAt ks) (fields-ended r)) .is))
@@ -74,7 +74,7 @@ answered-plain i t {ks = ks} p r =
 -- ---- the result leads on
 
 module _ {m : List ℕ} {c d : Cursor} {z : ℤ} (k : Bool) (ks : List Kind) (h : Took m c (num i32) (signed z) d) where
-  same : (o : Outcome ℕ) → _≡_ {A = Outcome (Value Part)} (outcome d (signed z)) (followed o (λ n q. got (signed (signedOf 4 n)) q))
+  same : (o : Outcome ℕ) → _≡_ {A = Outcome (Value Part)} (outcomeAt d (signed z)) (followed o (λ n q. got (signed (signedOf 4 n)) q))
       → followed o (λ n q. behindResult k ks (signedOf 4 n) m q) ≡ from d (behindResult k ks z) m
   same (got n q) e = go (eqb (d .code) 0) e
     where
@@ -84,12 +84,12 @@ module _ {m : List ℕ} {c d : Cursor} {z : ℤ} (k : Bool) (ks : List Kind) (h 
           let s : signedOf 4 n ≡ z = cc in
           let p : q ≡ d .at = cc in
           rw (s, p)
-      go false e = let y : _≡_ {A = ℕ} 0 1 = cc in never y
+      go false e = let y : false ≡ true = cc in apart y
   same (fail x y) e = go (eqb (d .code) 0) e
     where
       go : (b : Bool) → _≡_ {A = Outcome (Value Part)} (cond b (got (signed z) (d .at)) (fail (d .code) (d .at))) (fail x y)
           → fail x y ≡ cond b (behindResult k ks z m (d .at)) (fail (d .code) (d .at))
-      go true e = let y : _≡_ {A = ℕ} 0 1 = cc in never y
+      go true e = let y : false ≡ true = cc in apart y
       go false e = cc
 
   result-read : from c (bodyAt (led k ks)) m ≡ from d (behindResult k ks z) m
@@ -124,5 +124,5 @@ compared-refused d size n h = record { is = λ b. rw (ne-eqb (d .code) 0 h) }
 pub compared-same : (d : Cursor) (size n : ℕ) → d .code ≡ 0 → size ≡ n → Compared d size n d
 compared-same d size n h e = record { is = λ b. rw (eq-eqb (d .code) 0 h, eq-eqb n size (sym e)) }
 
-pub compared-other : (d : Cursor) (size n : ℕ) → d .code ≡ 0 → (size ≡ n → ⊥) → Compared d size n (record { code = 6; at = 5 })
+pub compared-other : (d : Cursor) (size n : ℕ) → d .code ≡ 0 → (size ≡ n → ⊥) → Compared d size n (refusalAt dataLengthMismatch resultPlace)
 compared-other d size n h e = record { is = λ b. rw (eq-eqb (d .code) 0 h, ne-eqb n size (λ f. e (sym f))) }

@@ -8,14 +8,15 @@ use lib.IntN.{ℤ, pos}
 use Rattle.method.specs.declared.Method.{Method}
 use Rattle.method.specs.declared.Method.the-variants.{Access, Getattr, Readlink, Symlink, Link, Rename, Chmod, Chown, Truncate, Fsync, Open, Mknod, Create, Release, Unlink, Read, Write, Mkdir, Readdir, Rmdir, Statfs, Utimens, Getcreds}
 use Rattle.method.specs.Methods.{replyNumber}
-use Rattle.layout.specs.Limits.{unexpectedType, dataLengthMismatch}
+use Rattle.layout.specs.Refusals.{unexpectedType, dataLengthMismatch}
 use Rattle.layout.specs.Table.{unknownResponse, reply, Plan, unexpected, header, asked, plain, led, plan}
 use Rattle.layout.specs.Values.{Part, Value, number, signed, run, runs}
 use Rattle.layout.specs.Reading.{Outcome, got, fail, Reader, mapped, unknown, failure, success, Body, body, behindResult, typePlace, bodyAt, message, Answer, refused, accepted, answer, resultPlace}
 use Rattle.layout.specs.Names.{firstName, namesAt}
-use Rattle.field.specs.declared.Cursor.{Cursor}
-use Rattle.field.specs.Cursors.{outcome, from, partOf}
-use Rattle.field.specs.Values.{attributesValues, statisticsValues}
+use Rattle.wire.specs.declared.Cursor.{Cursor}
+use Rattle.field_reader.specs.Cursors.{outcomeAt, from}
+use Rattle.wire.specs.Runs.{partOf}
+use Rattle.wire.specs.Values.{attributesValues, statisticsValues}
 use Rattle.reply_reader.specs.declared.Reply.{Reply}
 use Rattle.reply_reader.specs.declared.Reply.the-variants as R
 use Rattle.reply_reader.specs.declared.ReplyAnswer.{ReplyAnswer}
@@ -99,8 +100,8 @@ successAt m c i t z = answer (from c (mapped (message i t) (behind (plan reply t
 
 -- a success with the result n whose last field ends at c
 pub record Finished (m : List ℕ) (i n : ℕ) (q : Reply) (c : Cursor) (a : Answer) : Type 0 where
-  pub is : a ≡ answer (outcome c (message i (typeOf q) (body success (signed (pos n) ∷ valuesOf m q))))
+  pub is : a ≡ answer (outcomeAt c (message i (typeOf q) (body success (signed (pos n) ∷ valuesOf m q))))
 
 -- the cursor d behind data of so many bytes, and e after the result n was compared
 pub record Compared (d : Cursor) (size n : ℕ) (e : Cursor) : Type 0 where
-  pub is : (b : Body) → outcome e b ≡ from d (λ m p. cond (eqb n size) (got b p) (fail dataLengthMismatch resultPlace)) []
+  pub is : (b : Body) → outcomeAt e b ≡ from d (λ m p. cond (eqb n size) (got b p) (fail dataLengthMismatch resultPlace)) []

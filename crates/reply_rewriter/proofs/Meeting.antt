@@ -15,14 +15,14 @@ use Rattle.layout.specs.Names.{firstName}
 use Rattle.layout.specs.Writing.{sized, sizedAll, allWellFormed}
 use Rattle.layout.proofs.Agreement.{part-length, joined-parts}
 use Rattle.layout.proofs.Rewritten.{sized-again}
-use Rattle.field.specs.Cursors.{shown}
-use Rattle.field.specs.declared.Cursor.{Cursor}
-use Rattle.store.specs.Stored.{Puts}
-use Rattle.writer.specs.declared.Written.{Written}
-use Rattle.writer.specs.Writers.{admitted, Ends, Wrote}
-use Rattle.names_writer.specs.Readdir.{storeNames}
-use Rattle.names_writer.proofs.Readdirs.{replyPieces, pieces-wrote}
-use Rattle.names_writer.proofs.Taking.{NameHere, namesOn, names-next}
+use Rattle.wire.specs.Runs.{shown}
+use Rattle.wire.specs.declared.Cursor.{Cursor}
+use Rattle.field_writer.specs.Stored.{Puts}
+use Rattle.message_writer.specs.declared.Written.{Written}
+use Rattle.message_writer.specs.Writers.{admitted, Ends, Wrote}
+use Rattle.readdir_writer.specs.Readdir.{storeNames}
+use Rattle.readdir_writer.proofs.Readdirs.{replyPieces, pieces-wrote}
+use Rattle.readdir_writer.proofs.Taking.{NameHere, namesOn, names-next}
 use Rattle.reply_rewriter.specs.declared.Names.{Names}
 use Rattle.reply_rewriter.specs.Rewriting.{Met}
 

@@ -1,30 +1,22 @@
 // The success reply of any method but getcreds, as the reader gives it, written into a lent buffer. What was read is written again by
 // one call.
-ghost use mathlib.Core.List.{[], _∷_, map};
-ghost use Rattle.method.specs.declared.Method.the-variants as methods;
-ghost use Rattle.layout.specs.Values.{signed, runs, bytesIn};
-ghost use Rattle.writer.specs.Writers.{Wrote};
-ghost use Rattle.reply_reader.specs.Answers.{methodOf, valuesOf};
-ghost use Rattle.reply_writer.specs.Replying.{replying};
-ghost use Rattle.names_writer.specs.Collecting.{namesIn};
-ghost use Rattle.reply_rewriter.specs.Rewriting.{writtenIn, Met};
-use field::Run;
-use field::bytes_of;
+ghost use Rattle.message_writer.specs.Writers.{Writes};
+ghost use Rattle.reply_rewriter.specs.Rewriting.{nameTexts, rewriting, rewritingNames, Met};
+use message_writer::Written;
 use method::Method;
-use names_writer::FIRST_NAME;
-use names_writer::Next;
-use names_writer::name_at;
+use readdir_writer::Next;
+use readdir_writer::name_at;
 use reply_reader::Reply;
 use reply_writer::*;
-use writer::Written;
-
-// Document 01's refusal of a success with a negative result.
-const RESULT_SIGN: u8 = 8;
+use wire::FIRST_NAME;
+use wire::Refusal;
+use wire::Run;
+use wire::bytes_of;
 
 // The text, data or names of `reply` stand in `m`: the message that was read, or any slice that has them at the same places. A run that
 // does not lie inside it is written as an empty one.
 pub fn write_reply(id: u32, result: i32, reply: Reply, m: &[u8], out: &mut [u8]) -> Written
-    ensures { λ r. ⌜ Wrote (replying (methodOf reply) id (signed result ∷ map (writtenIn (now (m .entry))) (valuesOf (now (m .entry)) reply)) (now (out .entry))) (now (out .exit)) r ⌝ }
+    ensures { λ r. ⌜ Writes (rewriting reply id result (now (m .entry))) (out .entry) (out .exit) r ⌝ }
 {
     match reply {
         Reply::Access => write_access(id, result, out),
@@ -54,28 +46,28 @@ pub fn write_reply(id: u32, result: i32, reply: Reply, m: &[u8], out: &mut [u8])
 
 // The success reply of readdir, its names as they stand in the message `m`: these, with their lengths, are copied as one piece.
 // `count` is the reader's. A name that does not fit into the message ends the names, so a count that was made up does no harm, and
-// the count that is written is that of the names met.
+// the count that is written is that of the names met. Refuses 8, 5, 2, 7.
 pub fn write_readdir(id: u32, result: i32, m: &[u8], count: u32, out: &mut [u8]) -> Written
-    ensures { λ r. ⌜ Wrote (replying methods.Readdir id (signed result ∷ runs (map (bytesIn (now (m .entry))) (namesIn (now (m .entry)) count)) ∷ []) (now (out .entry))) (now (out .exit)) r ⌝ }
+    ensures { λ r. ⌜ Writes (rewritingNames count id result (now (m .entry))) (out .entry) (out .exit) r ⌝ }
 {
     if result < 0 {
         return Written::Refused {
-            number: RESULT_SIGN,
+            number: Refusal::RESULT_SIGN,
             place: 0,
         };
     }
     let names = meet_names(m, count);
     let len = names.len;
-    let start = writer::admit(names.texts, len, 0, FIRST_NAME, out.len());
-    let header = store::put_header(out, start, id, Method::READDIR_REPLY);
-    let behind_result = store::put_i32(out, header, result);
-    let behind_count = store::put_u32(out, behind_result, names.count);
+    let start = message_writer::admit(names.texts, len, 0, FIRST_NAME, out.len());
+    let header = field_writer::put_header(out, start, id, Method::READDIR_REPLY);
+    let behind_result = field_writer::put_i32(out, header, result);
+    let behind_count = field_writer::put_u32(out, behind_result, names.count);
     let run = Run {
         start: FIRST_NAME,
         len,
     };
-    let behind_names = store::put_all(out, behind_count, bytes_of(m, run));
-    writer::finish(behind_names)
+    let behind_names = field_writer::put_all(out, behind_count, bytes_of(m, run));
+    message_writer::finish(behind_names)
 }
 
 // The names that were met in a message: how many they are, whether each is well-formed text, and how many bytes of the message they
@@ -88,7 +80,7 @@ struct Names {
 
 // Meets the names one after another, until there are `count` or one does not fit into the message.
 fn meet_names(m: &[u8], count: u32) -> Names
-    ensures { λ r. ⌜ Met (now (m .entry)) (map (bytesIn (now (m .entry))) (namesIn (now (m .entry)) count)) r ⌝ }
+    ensures { λ r. ⌜ Met (now (m .entry)) (nameTexts (now (m .entry)) count) r ⌝ }
 {
     let mut left = count;
     let mut texts = true;
@@ -103,7 +95,7 @@ fn meet_names(m: &[u8], count: u32) -> Names
             };
         };
         let end = start + size as usize;
-        texts = texts & writer::is_text(&m[start..end]);
+        texts = texts & message_writer::is_text(&m[start..end]);
         len = end - FIRST_NAME;
         left -= 1;
     }

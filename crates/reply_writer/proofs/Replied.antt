@@ -13,21 +13,23 @@ use Rattle.number.specs.BigEndian.{bytesOf}
 use Rattle.number.specs.TwosComplement.{bitsOf}
 use Rattle.number.proofs.BigEndian.{length-bytesOf}
 use Rattle.text.specs.Utf8.{wellFormed}
-use Rattle.layout.specs.Kinds.{Kind, string}
-use Rattle.layout.specs.Limits.{malformedText, dataLengthMismatch, resultSign, longest}
+use Rattle.layout.specs.Kinds.{u32, width, Kind, string}
+use Rattle.layout.specs.Refusals.{malformedText, dataLengthMismatch, resultSign, unexpectedType}
+use Rattle.layout.specs.Limits.{longest, headerSize}
 use Rattle.layout.specs.Table.{reply, plain, led, plan}
 use Rattle.layout.specs.Values.{Value, signed, run}
-use Rattle.layout.specs.Reading.{failure, success}
+use Rattle.layout.specs.Reading.{failure, success, fieldsPlace}
 use Rattle.layout.specs.Writing.{sized, encode, encodeAll, encodeMessage, hasShape, negative, textRight, textsRight, counts, countRight, write}
-use Rattle.layout.proofs.Tests.{never}
-use Rattle.field.specs.declared.Cursor.{Cursor}
-use Rattle.writer.specs.declared.Written.{Written}
-use Rattle.writer.specs.declared.Written.the-variants.{Refused}
-use Rattle.store.specs.Stored.{refusal, runFrom, Put, Puts, none, more, concat, Fields}
-use Rattle.writer.specs.Writers.{admitted, Ends, Wrote}
-use Rattle.store.proofs.Storing.{run-within, puts-then, encodings, concat-encodings, fields-put}
-use Rattle.writer.proofs.Writers.{admitted-within, tested, wrote}
-use Rattle.reply_writer.specs.Replying.{allowed, Started}
+use Rattle.layout.proofs.Tests.{apart}
+use Rattle.wire.specs.declared.Cursor.{Cursor}
+use Rattle.message_writer.specs.declared.Written.{Written}
+use Rattle.message_writer.specs.declared.Written.the-variants.{Refused}
+use Rattle.field_writer.specs.Stored.{runFrom, Put, Puts, none, more, concat, Fields}
+use Rattle.wire.specs.Cursors.{refusal}
+use Rattle.message_writer.specs.Writers.{admitted, Ends, Wrote}
+use Rattle.field_writer.proofs.Storing.{run-within, puts-then, encodings, concat-encodings, fields-put}
+use Rattle.message_writer.proofs.Writers.{admitted-within, tested, wrote}
+use Rattle.reply_writer.specs.Replying.{allowed, SuccessStarted}
 
 -- ---- the sign of a result
 
@@ -37,12 +39,12 @@ negative-below (negsuc n) vs = refl
 
 -- a negative result counts nothing, any other what it says
 pub below-counts : (z : ℤ) (s : List ℕ) → ltZ z (pos 0) ≡ true → false ≡ counts (signed z ∷ run s ∷ [])
-below-counts (pos n) s h = never (sym (lt-leb (suc n) 0 (omega arith)) ∙ h)
+below-counts (pos n) s h = apart (sym (lt-leb (suc n) 0 (omega arith)) ∙ h)
 below-counts (negsuc n) s h = refl
 
 pub other-counts : (z : ℤ) (s : List ℕ) → ltZ z (pos 0) ≡ false → eqb (natAbs z) (length s) ≡ counts (signed z ∷ run s ∷ [])
 other-counts (pos n) s h = refl
-other-counts (negsuc n) s h = never (sym h)
+other-counts (negsuc n) s h = apart (sym h)
 
 -- ---- what is checked before the first byte
 
@@ -73,7 +75,7 @@ allowed-size z texts counted size n = go (not (ltZ z (pos 0))) texts counted
 abbrev led·bytes : ℕ → ℕ → ℤ → List ℕ → List ℕ
 led·bytes i t z rest = bytesOf 4 i ++ (bytesOf 1 t ++ (bytesOf 4 (bitsOf 4 z) ++ rest))
 
-led-size : (i t : ℕ) (z : ℤ) (rest : List ℕ) → length (led·bytes i t z rest) ≡ 9 + length rest
+led-size : (i t : ℕ) (z : ℤ) (rest : List ℕ) → length (led·bytes i t z rest) ≡ fieldsPlace + length rest
 led-size i t z rest =
     omega (
       arith,
@@ -87,8 +89,8 @@ led-size i t z rest =
 
 -- the pieces are the reply's, and their size was checked
 succeeds : (i t : ℕ) (z : ℤ) (vs : List (Value (List ℕ))) {l m n : List ℕ} {d f : Cursor} {es : List (List ℕ)} {r : Written} {count : Bool} {ks : List Kind} {size : ℕ} {texts counted : Bool}
-    → Started texts counted size l i t z m d → Ends f r → plan reply t ≡ led count ks → texts ≡ textsRight ks vs → counted ≡ countRight (led count ks) success (signed z ∷ vs)
-    → concat es ≡ encodeAll ks vs → size ≡ 9 + length (encodeAll ks vs) → Puts m d es n f → Wrote (write reply success i t (signed z ∷ vs) true l) n r
+    → SuccessStarted texts counted size l i t z m d → Ends f r → plan reply t ≡ led count ks → texts ≡ textsRight ks vs → counted ≡ countRight (led count ks) success (signed z ∷ vs)
+    → concat es ≡ encodeAll ks vs → size ≡ fieldsPlace + length (encodeAll ks vs) → Puts m d es n f → Wrote (write reply success i t (signed z ∷ vs) true l) n r
 unfolding write allowed encodeMessage
 succeeds i t z vs {l} {m} {n} {d} {f} {es} {r} {count} {ks} {size} {texts} {counted} start end p text tally same s q =
     rw (p, negative-below z vs, ← text, ← tally)
@@ -111,17 +113,17 @@ succeeds i t z vs {l} {m} {n} {d} {f} {es} {r} {count} {ks} {size} {texts} {coun
 
 -- a success of numbers behind the result
 pub numbers-reply : (vs : List (Value (List ℕ))) {l m n : List ℕ} {d f : Cursor} {i t w : ℕ} {z : ℤ} {r : Written} {ks : List Kind}
-    → Started true true (9 + w) l i t z m d → Ends f r → plan reply t ≡ led false ks → true ≡ textsRight ks vs → w ≡ length (encodeAll ks vs)
+    → SuccessStarted true true (fieldsPlace + w) l i t z m d → Ends f r → plan reply t ≡ led false ks → true ≡ textsRight ks vs → w ≡ length (encodeAll ks vs)
     → Fields m d ks vs n f → Wrote (write reply success i t (signed z ∷ vs) true l) n r
 numbers-reply vs {i = i} {t = t} {z = z} {ks = ks} start end p texts size q =
-    succeeds i t z vs start end p texts refl (concat-encodings ks vs) (ap (λ (k : ℕ). 9 + k) size) (fields-put q)
+    succeeds i t z vs start end p texts refl (concat-encodings ks vs) (ap (λ (k : ℕ). fieldsPlace + k) size) (fields-put q)
 
 -- a success of numbers behind the result that are stored together
 pub group-reply : (vs : List (Value (List ℕ))) {l m n : List ℕ} {d f : Cursor} {i t w : ℕ} {z : ℤ} {r : Written} {ks : List Kind}
-    → Started true true (9 + w) l i t z m d → Ends f r → plan reply t ≡ led false ks → true ≡ textsRight ks vs → w ≡ length (encodeAll ks vs)
+    → SuccessStarted true true (fieldsPlace + w) l i t z m d → Ends f r → plan reply t ≡ led false ks → true ≡ textsRight ks vs → w ≡ length (encodeAll ks vs)
     → Put m d (encodeAll ks vs) n f → Wrote (write reply success i t (signed z ∷ vs) true l) n r
 group-reply vs {i = i} {t = t} {z = z} {ks = ks} start end p texts size q =
-    succeeds i t z vs start end p texts refl (append-nil (encodeAll ks vs)) (ap (λ (k : ℕ). 9 + k) size) (more q none)
+    succeeds i t z vs start end p texts refl (append-nil (encodeAll ks vs)) (ap (λ (k : ℕ). fieldsPlace + k) size) (more q none)
 
 and-true : (a : Bool) → a ≡ a && true
 and-true true = refl
@@ -129,24 +131,24 @@ and-true false = refl
 
 -- a success of one text or data behind the result
 pub run-reply : (s : List ℕ) {l m n : List ℕ} {d f : Cursor} {i t : ℕ} {z : ℤ} {r : Written} {count texts counted : Bool} {k : Kind}
-    → Started texts counted (length s + 0 + (9 + 4)) l i t z m d → Ends f r → plan reply t ≡ led count (k ∷ []) → encode k (run s) ≡ sized s → texts ≡ textRight k (run s)
+    → SuccessStarted texts counted (length s + 0 + (fieldsPlace + width u32)) l i t z m d → Ends f r → plan reply t ≡ led count (k ∷ []) → encode k (run s) ≡ sized s → texts ≡ textRight k (run s)
     → counted ≡ countRight (led count (k ∷ [])) success (signed z ∷ run s ∷ []) → Put m (runFrom d (length s)) (sized s) n f
     → Wrote (write reply success i t (signed z ∷ run s ∷ []) true l) n r
 run-reply s {l = l} {m = m} {n = n} {d = d} {f = f} {i = i} {t = t} {z = z} {texts = texts} {counted = counted} {k = k} start end p sizes text tally q =
     succeeds i t z (run s ∷ []) start end p (text ∙ and-true (textRight k (run s))) tally bytes size (more put none)
   where
     put : Put m d (sized s) n f
-    put = run-within (allowed-size z texts counted (length s + 0 + (9 + 4)) (length l)) (start .is) (omega arith) q
+    put = run-within (allowed-size z texts counted (length s + 0 + (fieldsPlace + width u32)) (length l)) (start .is) (omega arith) q
 
     bytes : sized s ++ [] ≡ encode k (run s) ++ []
     bytes = rw sizes
 
-    size : length s + 0 + (9 + 4) ≡ 9 + length (encode k (run s) ++ [])
+    size : length s + 0 + (fieldsPlace + width u32) ≡ fieldsPlace + length (encode k (run s) ++ [])
     size = rw (← bytes) (omega (arith, length-append (sized s) [], length-append (bytesOf 4 (length s)) s, length-bytesOf 4 (length s)))
 
 -- ---- a reply without a result
 
-pub plain-reply : (i t : ℕ) (s : List ℕ) {l m n : List ℕ} {c d f : Cursor} {r : Written} → c ≡ admitted (wellFormed s) (length s + 0 + 9) (length l)
+pub plain-reply : (i t : ℕ) (s : List ℕ) {l m n : List ℕ} {c d f : Cursor} {r : Written} → c ≡ admitted (wellFormed s) (length s + 0 + (headerSize + width u32)) (length l)
     → plan reply t ≡ plain (string ∷ []) → Ends f r → Put l c (bytesOf 4 i ++ bytesOf 1 t) m d → Put m (runFrom d (length s)) (sized s) n f
     → Wrote (write reply success i t (run s ∷ []) true l) n r
 unfolding write encodeMessage
@@ -162,7 +164,7 @@ plain-reply i t s {l} {m} {n} {c} {d} {f} {r} a p end h q =
     bytes : concat all ≡ e
     bytes = append-assoc (bytesOf 4 i) (bytesOf 1 t) (sized s ++ [])
 
-    size : length s + 0 + 9 ≡ length e
+    size : length s + 0 + (headerSize + width u32) ≡ length e
     size =
         rw (← bytes)
         (omega (
@@ -177,7 +179,7 @@ plain-reply i t s {l} {m} {n} {c} {d} {f} {r} a p end h q =
         ))
 
     put : Put m d (sized s) n f
-    put = run-within (admitted-within (wellFormed s) (length s + 0 + 9) (length l) a) (more h none) (omega arith) q
+    put = run-within (admitted-within (wellFormed s) (length s + 0 + (headerSize + width u32)) (length l) a) (more h none) (omega arith) q
 
     stored : Puts l (admitted (wellFormed s) (length e) (length l)) all n f
     stored = subst (λ (k : ℕ). Puts l (admitted (wellFormed s) k (length l)) all n f) size (rw (← a) (more h (more put none)))
@@ -189,16 +191,16 @@ failure-uncounted true ks vs = refl
 failure-uncounted false ks vs = refl
 
 module _ (i t : ℕ) (z : ℤ) (l : List ℕ) where
-  pub no-failure-type : hasShape (plan reply t) failure ≡ false → Wrote (write reply failure i t (signed z ∷ []) true l) l (Refused 3 0)
+  pub no-failure-type : hasShape (plan reply t) failure ≡ false → Wrote (write reply failure i t (signed z ∷ []) true l) l (Refused unexpectedType 0)
   unfolding write
   no-failure-type h = record { tells = rw h; leaves = rw h }
 
   module _ {count : Bool} {ks : List Kind} (p : plan reply t ≡ led count ks) where
-    pub no-failure-sign : ltZ z (pos 0) ≡ false → Wrote (write reply failure i t (signed z ∷ []) true l) l (Refused 8 0)
+    pub no-failure-sign : ltZ z (pos 0) ≡ false → Wrote (write reply failure i t (signed z ∷ []) true l) l (Refused resultSign 0)
     unfolding write
     no-failure-sign h = record { tells = rw (p, negative-below z [], h); leaves = rw (p, negative-below z [], h) }
 
-    pub failed : {n : List ℕ} {c f : Cursor} {r : Written} → c ≡ admitted true 9 (length l) → ltZ z (pos 0) ≡ true → Ends f r
+    pub failed : {n : List ℕ} {c f : Cursor} {r : Written} → c ≡ admitted true fieldsPlace (length l) → ltZ z (pos 0) ≡ true → Ends f r
         → Puts l c ((bytesOf 4 i ++ bytesOf 1 t) ∷ bytesOf 4 (bitsOf 4 z) ∷ []) n f → Wrote (write reply failure i t (signed z ∷ []) true l) n r
     unfolding write encodeMessage
     failed {n} {c} {f} {r} a h end q = rw (p, negative-below z [], h, failure-uncounted count ks (signed z ∷ [])) (wrote end true e (append-assoc (bytesOf 4 i) (bytesOf 1 t) (bytesOf 4 (bitsOf 4 z) ++ [])) stored)

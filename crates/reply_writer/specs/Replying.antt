@@ -9,17 +9,18 @@ use Rattle.number.specs.BigEndian.{bytesOf}
 use Rattle.number.specs.TwosComplement.{bitsOf}
 use Rattle.method.specs.declared.Method.{Method}
 use Rattle.method.specs.Methods.{replyNumber}
-use Rattle.layout.specs.Limits.{malformedText, dataLengthMismatch, resultSign}
+use Rattle.layout.specs.Refusals.{malformedText, dataLengthMismatch, resultSign}
 use Rattle.layout.specs.Table.{reply}
 use Rattle.layout.specs.Values.{Value}
 use Rattle.layout.specs.Reading.{success}
-use Rattle.layout.specs.Writing.{Written, write}
-use Rattle.field.specs.declared.Cursor.{Cursor}
-use Rattle.store.specs.Stored.{refusal, Puts}
-use Rattle.writer.specs.Writers.{admitted}
+use Rattle.layout.specs.Writing.{WriteOutcome, write}
+use Rattle.wire.specs.declared.Cursor.{Cursor}
+use Rattle.field_writer.specs.Stored.{Puts}
+use Rattle.wire.specs.Cursors.{refusal}
+use Rattle.message_writer.specs.Writers.{admitted}
 
 -- the success of a method with this id and these values, the result first where it has one, in this buffer
-abbrev pub replying : Method → ℕ → List (Value (List ℕ)) → List ℕ → Written
+abbrev pub replying : Method → ℕ → List (Value (List ℕ)) → List ℕ → WriteOutcome
 replying m i vs out = write reply success i (replyNumber m) vs true out
 
 -- where a success with the result z is stored from: the start of a buffer of n bytes, or the first refusal.
@@ -32,5 +33,5 @@ allowed z textRight counted size n =
     (refusal resultSign)
 
 -- the header and the result of a success of so many bytes, stored where it passes the checks
-pub record Started (textRight counted : Bool) (size : ℕ) (l : List ℕ) (i t : ℕ) (z : ℤ) (m : List ℕ) (d : Cursor) : Type 0 where
+pub record SuccessStarted (textRight counted : Bool) (size : ℕ) (l : List ℕ) (i t : ℕ) (z : ℤ) (m : List ℕ) (d : Cursor) : Type 0 where
   pub is : Puts l (allowed z textRight counted size (length l)) ((bytesOf 4 i ++ bytesOf 1 t) ∷ bytesOf 4 (bitsOf 4 z) ∷ []) m d

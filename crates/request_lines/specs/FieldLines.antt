@@ -8,7 +8,7 @@ use Rattle.layout.specs.Kinds.{Field}
 use Rattle.layout.specs.Table.{row}
 use Rattle.layout.specs.Values.{Part, Value, number, signed, truth, run, runs}
 use Rattle.layout.specs.Writing.{bit}
-use Rattle.field.specs.declared.Cursor.{Cursor}
+use Rattle.wire.specs.declared.Cursor.{Cursor}
 use Rattle.lines.specs.Lines.{decimal, integer, Line, AddsLines}
 
 -- a value: a number in decimal, a bool as 0 or 1, text and bytes as their length, names as their count

@@ -2,13 +2,14 @@
 ghost use mathlib.Core.List.{[], _∷_};
 ghost use Rattle.method.specs.declared.Method.the-variants as methods;
 ghost use Rattle.layout.specs.Values.{number as natural, signed, truth, run};
-ghost use Rattle.field.specs.Cursors.{partOf};
+ghost use Rattle.wire.specs.Runs.{partOf};
+ghost use Rattle.wire.specs.Values.{renameValues, readValues, utimensValues};
 ghost use Rattle.request_reader.specs.Answers.{methodOf, valuesOf};
 ghost use Rattle.request_lines.specs.FieldLines.{AddsFields};
-use field::Cursor;
-use field::Run;
-use field::Timestamp;
 use request_reader::Request;
+use wire::Cursor;
+use wire::Run;
+use wire::Timestamp;
 
 // The lines of a request's fields, in page order.
 pub fn put_fields(out: &mut [u8], c: Cursor, request: Request) -> Cursor
@@ -98,7 +99,7 @@ fn put_link(out: &mut [u8], c: Cursor, old_path: Run, new_path: Run) -> Cursor
 }
 
 fn put_rename(out: &mut [u8], c: Cursor, old_path: Run, new_path: Run, flags: u8) -> Cursor
-    ensures { λ r. ⌜ AddsFields (now (out .entry)) c methods.Rename (run (partOf «old_path») ∷ run (partOf «new_path») ∷ natural flags ∷ []) (now (out .exit)) r ⌝ }
+    ensures { λ r. ⌜ AddsFields (now (out .entry)) c methods.Rename (renameValues (partOf «old_path») (partOf «new_path») flags) (now (out .exit)) r ⌝ }
 {
     let behind_old_path = lines::put_number(out, c, b"old_path", old_path.len as u64);
     let behind_new_path = lines::put_number(out, behind_old_path, b"new_path", new_path.len as u64);
@@ -159,7 +160,7 @@ fn put_read(
     offset: u64,
     handle: u64,
 ) -> Cursor
-    ensures { λ r. ⌜ AddsFields (now (out .entry)) c methods.Read (run (partOf path) ∷ natural «buffer_size» ∷ natural offset ∷ natural handle ∷ []) (now (out .exit)) r ⌝ }
+    ensures { λ r. ⌜ AddsFields (now (out .entry)) c methods.Read (readValues (partOf path) «buffer_size» offset handle) (now (out .exit)) r ⌝ }
 {
     let behind_path = lines::put_number(out, c, b"path", path.len as u64);
     let behind_buffer_size = lines::put_number(
@@ -188,7 +189,7 @@ fn put_utimens(
     mtime: Timestamp,
     handle: u64,
 ) -> Cursor
-    ensures { λ r. ⌜ AddsFields (now (out .entry)) c methods.Utimens (run (partOf path) ∷ natural (atime .seconds) ∷ natural (atime .nsec) ∷ natural (mtime .seconds) ∷ natural (mtime .nsec) ∷ natural handle ∷ []) (now (out .exit)) r ⌝ }
+    ensures { λ r. ⌜ AddsFields (now (out .entry)) c methods.Utimens (utimensValues (partOf path) atime mtime handle) (now (out .exit)) r ⌝ }
 {
     let behind_path = lines::put_number(out, c, b"path", path.len as u64);
     let behind_atime = lines::put_time(out, behind_path, b"atime", b"atime.nsec", atime);

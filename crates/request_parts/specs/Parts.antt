@@ -4,7 +4,7 @@ use Rattle.layout.specs.Table.{request}
 use Rattle.layout.specs.Values.{Part}
 use Rattle.layout.specs.Reading.{Answer}
 use Rattle.layout.specs.Parts.{nothing, named, fieldsOf, partNamed}
-use Rattle.field.specs.Cursors.{partOf}
+use Rattle.wire.specs.Runs.{partOf}
 use Rattle.request_reader.specs.declared.Request.{Request}
 use Rattle.request_parts.specs.declared.Runs.{Runs}
 use Rattle.request_reader.specs.Answers.{typeOf, valuesOf}

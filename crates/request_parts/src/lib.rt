@@ -2,12 +2,12 @@
 ghost use mathlib.Core.Path.{_≡_};
 ghost use Rattle.layout.specs.Table.{request as request·side};
 ghost use Rattle.layout.specs.Parts.{partNamed};
-ghost use Rattle.field.specs.Cursors.{partOf, Shows};
+ghost use Rattle.wire.specs.Runs.{partOf, Shows};
 ghost use Rattle.request_reader.specs.Answers.{answerOf};
 ghost use Rattle.request_parts.specs.Parts.{partsOf, partsNamed, partsOfRequest, onlyPath, onlyData, twoPaths, linkPaths, noParts};
-use field::Run;
 use request_reader::Request;
 use request_reader::RequestAnswer;
+use wire::Run;
 
 // The runs of a request by the names of its fields; a run that it does not have is empty.
 struct Runs {
@@ -22,7 +22,7 @@ struct Runs {
 fn no_runs() -> Runs
     ensures { λ r. ⌜ partsOf r ≡ noParts ⌝ }
 {
-    let none = Run { start: 0, len: 0 };
+    let none = Run::EMPTY;
     Runs {
         path: none,
         target: none,
@@ -36,7 +36,7 @@ fn no_runs() -> Runs
 fn only_path(path: Run) -> Runs
     ensures { λ r. ⌜ partsOf r ≡ onlyPath (partOf path) ⌝ }
 {
-    let none = Run { start: 0, len: 0 };
+    let none = Run::EMPTY;
     Runs {
         path,
         target: none,
@@ -50,7 +50,7 @@ fn only_path(path: Run) -> Runs
 fn only_data(data: Run) -> Runs
     ensures { λ r. ⌜ partsOf r ≡ onlyData (partOf «data») ⌝ }
 {
-    let none = Run { start: 0, len: 0 };
+    let none = Run::EMPTY;
     Runs {
         path: none,
         target: none,
@@ -64,7 +64,7 @@ fn only_data(data: Run) -> Runs
 fn link_paths(target: Run, linkpath: Run) -> Runs
     ensures { λ r. ⌜ partsOf r ≡ linkPaths (partOf target) (partOf linkpath) ⌝ }
 {
-    let none = Run { start: 0, len: 0 };
+    let none = Run::EMPTY;
     Runs {
         path: none,
         target,
@@ -78,7 +78,7 @@ fn link_paths(target: Run, linkpath: Run) -> Runs
 fn two_paths(old_path: Run, new_path: Run) -> Runs
     ensures { λ r. ⌜ partsOf r ≡ twoPaths (partOf «old_path») (partOf «new_path») ⌝ }
 {
-    let none = Run { start: 0, len: 0 };
+    let none = Run::EMPTY;
     Runs {
         path: none,
         target: none,
@@ -133,46 +133,51 @@ fn runs_of(answer: RequestAnswer) -> Runs
     }
 }
 
-// The bytes of each text and of the data, as a part of the message that was answered so. A message without that field, and one
-// that was refused, gives the empty part.
+// The bytes of the path of a request, as a part of the message that was answered so. Here and below a message without that field, and one that was
+// refused, gives the empty part.
 pub fn path<'a>(m: &'a [u8], answer: RequestAnswer) -> &'a [u8]
     ensures { λ s. ⌜ Shows (m .entry) (partNamed request·side "path" (answerOf answer)) s ⌝ }
 {
     let runs = runs_of(answer);
-    field::bytes_of(m, runs.path)
+    wire::bytes_of(m, runs.path)
 }
 
+// The bytes of the target of a symlink request.
 pub fn target<'a>(m: &'a [u8], answer: RequestAnswer) -> &'a [u8]
     ensures { λ s. ⌜ Shows (m .entry) (partNamed request·side "target" (answerOf answer)) s ⌝ }
 {
     let runs = runs_of(answer);
-    field::bytes_of(m, runs.target)
+    wire::bytes_of(m, runs.target)
 }
 
+// The bytes of the linkpath of a symlink request.
 pub fn linkpath<'a>(m: &'a [u8], answer: RequestAnswer) -> &'a [u8]
     ensures { λ s. ⌜ Shows (m .entry) (partNamed request·side "linkpath" (answerOf answer)) s ⌝ }
 {
     let runs = runs_of(answer);
-    field::bytes_of(m, runs.linkpath)
+    wire::bytes_of(m, runs.linkpath)
 }
 
+// The bytes of the old_path of a link or rename request.
 pub fn old_path<'a>(m: &'a [u8], answer: RequestAnswer) -> &'a [u8]
     ensures { λ s. ⌜ Shows (m .entry) (partNamed request·side "old_path" (answerOf answer)) s ⌝ }
 {
     let runs = runs_of(answer);
-    field::bytes_of(m, runs.old_path)
+    wire::bytes_of(m, runs.old_path)
 }
 
+// The bytes of the new_path of a link or rename request.
 pub fn new_path<'a>(m: &'a [u8], answer: RequestAnswer) -> &'a [u8]
     ensures { λ s. ⌜ Shows (m .entry) (partNamed request·side "new_path" (answerOf answer)) s ⌝ }
 {
     let runs = runs_of(answer);
-    field::bytes_of(m, runs.new_path)
+    wire::bytes_of(m, runs.new_path)
 }
 
+// The bytes of the data of a write request.
 pub fn data<'a>(m: &'a [u8], answer: RequestAnswer) -> &'a [u8]
     ensures { λ s. ⌜ Shows (m .entry) (partNamed request·side "data" (answerOf answer)) s ⌝ }
 {
     let runs = runs_of(answer);
-    field::bytes_of(m, runs.data)
+    wire::bytes_of(m, runs.data)
 }

@@ -7,9 +7,9 @@ use Rattle.method.proofs.Table.{NoneOf, request-unknown}
 use Rattle.layout.specs.Kinds.{Kind}
 use Rattle.layout.specs.Table.{request, asked, plan}
 use Rattle.layout.specs.Reading.{unknown, known, body, message, mapped, fieldsAt, Answer, accepted, answer, behindHeader}
-use Rattle.field.specs.declared.Cursor.{Cursor}
-use Rattle.field.specs.Cursors.{Reads}
-use Rattle.field.proofs.Cursors.{map-ended, fields-ended}
+use Rattle.wire.specs.declared.Cursor.{Cursor}
+use Rattle.field_reader.specs.Cursors.{Reads}
+use Rattle.field_reader.proofs.Cursors.{map-ended, fields-ended}
 use Rattle.request_reader.specs.declared.Request.{Request}
 use Rattle.request_reader.specs.Answers.{typeOf, valuesOf, Finished, answerAt}
 

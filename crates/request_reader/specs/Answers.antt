@@ -8,8 +8,10 @@ use Rattle.method.specs.Methods.{requestNumber}
 use Rattle.layout.specs.Table.{request, plan}
 use Rattle.layout.specs.Values.{Part, Value, number, signed, truth, run}
 use Rattle.layout.specs.Reading.{mapped, unknown, known, body, bodyAt, message, Answer, refused, accepted, answer}
-use Rattle.field.specs.declared.Cursor.{Cursor}
-use Rattle.field.specs.Cursors.{outcome, from, partOf}
+use Rattle.wire.specs.declared.Cursor.{Cursor}
+use Rattle.field_reader.specs.Cursors.{outcomeAt, from}
+use Rattle.wire.specs.Runs.{partOf}
+use Rattle.wire.specs.Values.{renameValues, readValues, utimensValues}
 use Rattle.request_reader.specs.declared.Request.{Request}
 use Rattle.request_reader.specs.declared.Request.the-variants as R
 use Rattle.request_reader.specs.declared.RequestAnswer.{RequestAnswer}
@@ -47,7 +49,7 @@ valuesOf (R.Getattr path) = run (partOf path) ∷ []
 valuesOf (R.Readlink path) = run (partOf path) ∷ []
 valuesOf (R.Symlink target linkpath) = run (partOf target) ∷ run (partOf linkpath) ∷ []
 valuesOf (R.Link old-path new-path) = run (partOf old-path) ∷ run (partOf new-path) ∷ []
-valuesOf (R.Rename old-path new-path flags) = run (partOf old-path) ∷ run (partOf new-path) ∷ number flags ∷ []
+valuesOf (R.Rename old-path new-path flags) = renameValues (partOf old-path) (partOf new-path) flags
 valuesOf (R.Chmod path mode) = run (partOf path) ∷ number mode ∷ []
 valuesOf (R.Chown path uid gid) = run (partOf path) ∷ number uid ∷ number gid ∷ []
 valuesOf (R.Truncate path size handle) = run (partOf path) ∷ number size ∷ number handle ∷ []
@@ -57,13 +59,13 @@ valuesOf (R.Mknod path mode dev) = run (partOf path) ∷ number mode ∷ number 
 valuesOf (R.Create path mode) = run (partOf path) ∷ number mode ∷ []
 valuesOf (R.Release path handle) = run (partOf path) ∷ number handle ∷ []
 valuesOf (R.Unlink path) = run (partOf path) ∷ []
-valuesOf (R.Read path buffer-size offset handle) = run (partOf path) ∷ number buffer-size ∷ number offset ∷ number handle ∷ []
+valuesOf (R.Read path buffer-size offset handle) = readValues (partOf path) buffer-size offset handle
 valuesOf (R.Write content offset handle) = run (partOf content) ∷ number offset ∷ number handle ∷ []
 valuesOf (R.Mkdir path mode) = run (partOf path) ∷ number mode ∷ []
 valuesOf (R.Readdir path) = run (partOf path) ∷ []
 valuesOf (R.Rmdir path) = run (partOf path) ∷ []
 valuesOf (R.Statfs path) = run (partOf path) ∷ []
-valuesOf (R.Utimens path atime mtime handle) = run (partOf path) ∷ number (atime .seconds) ∷ number (atime .nsec) ∷ number (mtime .seconds) ∷ number (mtime .nsec) ∷ number handle ∷ []
+valuesOf (R.Utimens path atime mtime handle) = utimensValues (partOf path) atime mtime handle
 valuesOf R.Getcreds = []
 
 abbrev pub typeOf : Request → ℕ
@@ -77,7 +79,7 @@ answerOf (A.Refused n p) = refused n p
 
 -- a known request whose last field ends at c
 pub record Finished (i : ℕ) (q : Request) (c : Cursor) (a : Answer) : Type 0 where
-  pub is : a ≡ answer (outcome c (message i (typeOf q) (body known (valuesOf q))))
+  pub is : a ≡ answer (outcomeAt c (message i (typeOf q) (body known (valuesOf q))))
 
 -- the answer for a message with id i and type t, whose fields stand at c
 unfoldable pub answerAt : List ℕ → Cursor → ℕ → ℕ → Answer

@@ -4,156 +4,212 @@ ghost use Rattle.method.specs.declared.Method.the-variants.{Access, Getattr, Re
 ghost use Rattle.method.specs.Methods.{requestNumber};
 ghost use Rattle.layout.specs.Table.{request as request·side};
 ghost use Rattle.layout.specs.Reading.{read, behindHeader};
-ghost use Rattle.request_reader.specs.Answers.{answerOf, answerAt, Finished};
-use field::Cursor;
-use field::Run;
-use field::Timestamp;
+ghost use Rattle.request_reader.specs.Answers.{methodOf, answerOf, answerAt, Finished};
 use method::Method;
+use wire::Cursor;
+use wire::Header;
+use wire::Refusal;
+use wire::Run;
+use wire::Timestamp;
 
-// A request of each method, with its numbers at their own types. A text or data field is a run: a part of the message.
+// A request of each method, its fields by the row of document 01's table and its numbers at their own types. A text or data field is a run: a
+// part of the message.
 pub enum Request {
+    // access: path S, mode i8.
     Access {
         path: Run,
         mode: i8,
     },
+    // getattr: path S.
     Getattr {
         path: Run,
     },
+    // readlink: path S.
     Readlink {
         path: Run,
     },
+    // symlink: target S, linkpath S.
     Symlink {
         target: Run,
         linkpath: Run,
     },
+    // link: old_path S, new_path S.
     Link {
         old_path: Run,
         new_path: Run,
     },
+    // rename: old_path S, new_path S, flags u8.
     Rename {
         old_path: Run,
         new_path: Run,
         flags: u8,
     },
+    // chmod: path S, mode u32.
     Chmod {
         path: Run,
         mode: u32,
     },
+    // chown: path S, uid u32, gid u32.
     Chown {
         path: Run,
         uid: u32,
         gid: u32,
     },
+    // truncate: path S, size u64, handle u64.
     Truncate {
         path: Run,
         size: u64,
         handle: u64,
     },
+    // fsync: path S, is_datasync bool, handle u64.
     Fsync {
         path: Run,
         is_datasync: bool,
         handle: u64,
     },
+    // open: path S, flags i32.
     Open {
         path: Run,
         flags: i32,
     },
+    // mknod: path S, mode u32, dev u64.
     Mknod {
         path: Run,
         mode: u32,
         dev: u64,
     },
+    // create: path S, mode u32.
     Create {
         path: Run,
         mode: u32,
     },
+    // release: path S, handle u64.
     Release {
         path: Run,
         handle: u64,
     },
+    // unlink: path S.
     Unlink {
         path: Run,
     },
+    // read: path S, buffer_size u32, offset u64, handle u64.
     Read {
         path: Run,
         buffer_size: u32,
         offset: u64,
         handle: u64,
     },
+    // write: data bytes, offset u64, handle u64.
     Write {
         data: Run,
         offset: u64,
         handle: u64,
     },
+    // mkdir: path S, mode u32.
     Mkdir {
         path: Run,
         mode: u32,
     },
+    // readdir: path S.
     Readdir {
         path: Run,
     },
+    // rmdir: path S.
     Rmdir {
         path: Run,
     },
+    // statfs: path S.
     Statfs {
         path: Run,
     },
+    // utimens: path S, atime, mtime, handle u64.
     Utimens {
         path: Run,
         atime: Timestamp,
         mtime: Timestamp,
         handle: u64,
     },
+    // getcreds: no fields.
     Getcreds,
 }
 
-// What reading a request comes to. `known` is the length of the known part; a refusal has document 01's number, and its place.
+impl Request {
+    // The method of a request.
+    pub fn method(self) -> Method
+        ensures { λ r. ⌜ r ≡ methodOf self ⌝ }
+    {
+        match self {
+            Request::Access { .. } => Method::Access,
+            Request::Getattr { .. } => Method::Getattr,
+            Request::Readlink { .. } => Method::Readlink,
+            Request::Symlink { .. } => Method::Symlink,
+            Request::Link { .. } => Method::Link,
+            Request::Rename { .. } => Method::Rename,
+            Request::Chmod { .. } => Method::Chmod,
+            Request::Chown { .. } => Method::Chown,
+            Request::Truncate { .. } => Method::Truncate,
+            Request::Fsync { .. } => Method::Fsync,
+            Request::Open { .. } => Method::Open,
+            Request::Mknod { .. } => Method::Mknod,
+            Request::Create { .. } => Method::Create,
+            Request::Release { .. } => Method::Release,
+            Request::Unlink { .. } => Method::Unlink,
+            Request::Read { .. } => Method::Read,
+            Request::Write { .. } => Method::Write,
+            Request::Mkdir { .. } => Method::Mkdir,
+            Request::Readdir { .. } => Method::Readdir,
+            Request::Rmdir { .. } => Method::Rmdir,
+            Request::Statfs { .. } => Method::Statfs,
+            Request::Utimens { .. } => Method::Utimens,
+            Request::Getcreds => Method::Getcreds,
+        }
+    }
+}
+
+// What reading a request comes to.
 pub enum RequestAnswer {
+    // A request of a method, and the length of its known part.
     Known {
         id: u32,
         request: Request,
         known: usize,
     },
+    // A request of a type that is no method's. The header is all that is known.
     Unknown {
         id: u32,
-        kind: u8,
+        type_number: u8,
         known: usize,
     },
+    // Document 01's number of refusal, and its place.
     Refused {
         number: u8,
         place: usize,
     },
 }
 
-// The answer to a message. No message needs a check beforehand.
+// The answer to a message. No message needs a check beforehand. Refuses 1, 2, then 4 and 5 field by field.
 pub fn read_request(m: &[u8]) -> RequestAnswer
     ensures { λ r. ⌜ answerOf r ≡ read request·side (now (m .entry)) ⌝ }
 {
-    let len = m.len();
-    if len < 5 {
+    let header = field_reader::read_header(m);
+    let next = header.next;
+    let code = next.code;
+    let at = next.at;
+    if code != Refusal::NONE {
         return RequestAnswer::Refused {
-            number: 1,
-            place: 0,
+            number: code,
+            place: at,
         };
     }
-    if 65536 < len {
-        return RequestAnswer::Refused {
-            number: 2,
-            place: 0,
-        };
-    }
-    let start = Cursor { code: 0, at: 0 };
-    let id = field::u32_at(m, start);
-    let kind = field::u8_at(m, id.next);
-    read_body(m, id.value, kind.value)
+    read_body(m, header.value.id, header.value.type_number)
 }
 
 // The answer to a message of this id and type, whose fields begin behind the header.
-fn read_body(m: &[u8], id: u32, kind: u8) -> RequestAnswer
-    ensures { λ r. ⌜ answerOf r ≡ behindHeader request·side id kind (now (m .entry)) ⌝ }
+fn read_body(m: &[u8], id: u32, type_number: u8) -> RequestAnswer
+    ensures { λ r. ⌜ answerOf r ≡ behindHeader request·side id «type_number» (now (m .entry)) ⌝ }
 {
-    let c = Cursor { code: 0, at: 5 };
-    match kind {
+    let c = Cursor::BEHIND_HEADER;
+    match type_number {
         Method::ACCESS => read_access(m, c, id),
         Method::GETATTR => read_getattr(m, c, id),
         Method::READLINK => read_readlink(m, c, id),
@@ -177,7 +233,11 @@ fn read_body(m: &[u8], id: u32, kind: u8) -> RequestAnswer
         Method::STATFS => read_statfs(m, c, id),
         Method::UTIMENS => read_utimens(m, c, id),
         Method::GETCREDS => read_getcreds(m, c, id),
-        _ => RequestAnswer::Unknown { id, kind, known: 5 },
+        _ => RequestAnswer::Unknown {
+            id,
+            type_number,
+            known: Header::SIZE,
+        },
     }
 }
 
@@ -187,7 +247,7 @@ fn finish(id: u32, request: Request, c: Cursor) -> RequestAnswer
 {
     let code = c.code;
     let at = c.at;
-    if code == 0 {
+    if code == Refusal::NONE {
         RequestAnswer::Known {
             id,
             request,
@@ -201,11 +261,12 @@ fn finish(id: u32, request: Request, c: Cursor) -> RequestAnswer
     }
 }
 
+// access: path S, mode i8. Refuses 4, 5.
 fn read_access(m: &[u8], c: Cursor, id: u32) -> RequestAnswer
     ensures { λ r. ⌜ answerOf r ≡ answerAt (now (m .entry)) c id (requestNumber Access) ⌝ }
 {
-    let path = field::string_at(m, c);
-    let mode = field::i8_at(m, path.next);
+    let path = field_reader::string_at(m, c);
+    let mode = field_reader::i8_at(m, path.next);
     let path_value = path.value;
     finish(
         id,
@@ -217,27 +278,30 @@ fn read_access(m: &[u8], c: Cursor, id: u32) -> RequestAnswer
     )
 }
 
+// getattr: path S. Refuses 4, 5.
 fn read_getattr(m: &[u8], c: Cursor, id: u32) -> RequestAnswer
     ensures { λ r. ⌜ answerOf r ≡ answerAt (now (m .entry)) c id (requestNumber Getattr) ⌝ }
 {
-    let path = field::string_at(m, c);
+    let path = field_reader::string_at(m, c);
     let path_value = path.value;
     finish(id, Request::Getattr { path: path_value }, path.next)
 }
 
+// readlink: path S. Refuses 4, 5.
 fn read_readlink(m: &[u8], c: Cursor, id: u32) -> RequestAnswer
     ensures { λ r. ⌜ answerOf r ≡ answerAt (now (m .entry)) c id (requestNumber Readlink) ⌝ }
 {
-    let path = field::string_at(m, c);
+    let path = field_reader::string_at(m, c);
     let path_value = path.value;
     finish(id, Request::Readlink { path: path_value }, path.next)
 }
 
+// symlink: target S, linkpath S. Refuses 4, 5.
 fn read_symlink(m: &[u8], c: Cursor, id: u32) -> RequestAnswer
     ensures { λ r. ⌜ answerOf r ≡ answerAt (now (m .entry)) c id (requestNumber Symlink) ⌝ }
 {
-    let target = field::string_at(m, c);
-    let linkpath = field::string_at(m, target.next);
+    let target = field_reader::string_at(m, c);
+    let linkpath = field_reader::string_at(m, target.next);
     let target_value = target.value;
     let linkpath_value = linkpath.value;
     finish(
@@ -250,11 +314,12 @@ fn read_symlink(m: &[u8], c: Cursor, id: u32) -> RequestAnswer
     )
 }
 
+// link: old_path S, new_path S. Refuses 4, 5.
 fn read_link(m: &[u8], c: Cursor, id: u32) -> RequestAnswer
     ensures { λ r. ⌜ answerOf r ≡ answerAt (now (m .entry)) c id (requestNumber Link) ⌝ }
 {
-    let old_path = field::string_at(m, c);
-    let new_path = field::string_at(m, old_path.next);
+    let old_path = field_reader::string_at(m, c);
+    let new_path = field_reader::string_at(m, old_path.next);
     let old_path_value = old_path.value;
     let new_path_value = new_path.value;
     finish(
@@ -267,12 +332,13 @@ fn read_link(m: &[u8], c: Cursor, id: u32) -> RequestAnswer
     )
 }
 
+// rename: old_path S, new_path S, flags u8. Refuses 4, 5.
 fn read_rename(m: &[u8], c: Cursor, id: u32) -> RequestAnswer
     ensures { λ r. ⌜ answerOf r ≡ answerAt (now (m .entry)) c id (requestNumber Rename) ⌝ }
 {
-    let old_path = field::string_at(m, c);
-    let new_path = field::string_at(m, old_path.next);
-    let flags = field::u8_at(m, new_path.next);
+    let old_path = field_reader::string_at(m, c);
+    let new_path = field_reader::string_at(m, old_path.next);
+    let flags = field_reader::u8_at(m, new_path.next);
     let old_path_value = old_path.value;
     let new_path_value = new_path.value;
     finish(
@@ -286,11 +352,12 @@ fn read_rename(m: &[u8], c: Cursor, id: u32) -> RequestAnswer
     )
 }
 
+// chmod: path S, mode u32. Refuses 4, 5.
 fn read_chmod(m: &[u8], c: Cursor, id: u32) -> RequestAnswer
     ensures { λ r. ⌜ answerOf r ≡ answerAt (now (m .entry)) c id (requestNumber Chmod) ⌝ }
 {
-    let path = field::string_at(m, c);
-    let mode = field::u32_at(m, path.next);
+    let path = field_reader::string_at(m, c);
+    let mode = field_reader::u32_at(m, path.next);
     let path_value = path.value;
     finish(
         id,
@@ -302,12 +369,13 @@ fn read_chmod(m: &[u8], c: Cursor, id: u32) -> RequestAnswer
     )
 }
 
+// chown: path S, uid u32, gid u32. Refuses 4, 5.
 fn read_chown(m: &[u8], c: Cursor, id: u32) -> RequestAnswer
     ensures { λ r. ⌜ answerOf r ≡ answerAt (now (m .entry)) c id (requestNumber Chown) ⌝ }
 {
-    let path = field::string_at(m, c);
-    let uid = field::u32_at(m, path.next);
-    let gid = field::u32_at(m, uid.next);
+    let path = field_reader::string_at(m, c);
+    let uid = field_reader::u32_at(m, path.next);
+    let gid = field_reader::u32_at(m, uid.next);
     let path_value = path.value;
     finish(
         id,
@@ -320,12 +388,13 @@ fn read_chown(m: &[u8], c: Cursor, id: u32) -> RequestAnswer
     )
 }
 
+// truncate: path S, size u64, handle u64. Refuses 4, 5.
 fn read_truncate(m: &[u8], c: Cursor, id: u32) -> RequestAnswer
     ensures { λ r. ⌜ answerOf r ≡ answerAt (now (m .entry)) c id (requestNumber Truncate) ⌝ }
 {
-    let path = field::string_at(m, c);
-    let size = field::u64_at(m, path.next);
-    let handle = field::u64_at(m, size.next);
+    let path = field_reader::string_at(m, c);
+    let size = field_reader::u64_at(m, path.next);
+    let handle = field_reader::u64_at(m, size.next);
     let path_value = path.value;
     finish(
         id,
@@ -338,12 +407,13 @@ fn read_truncate(m: &[u8], c: Cursor, id: u32) -> RequestAnswer
     )
 }
 
+// fsync: path S, is_datasync bool, handle u64. Refuses 4, 5.
 fn read_fsync(m: &[u8], c: Cursor, id: u32) -> RequestAnswer
     ensures { λ r. ⌜ answerOf r ≡ answerAt (now (m .entry)) c id (requestNumber Fsync) ⌝ }
 {
-    let path = field::string_at(m, c);
-    let is_datasync = field::bool_at(m, path.next);
-    let handle = field::u64_at(m, is_datasync.next);
+    let path = field_reader::string_at(m, c);
+    let is_datasync = field_reader::bool_at(m, path.next);
+    let handle = field_reader::u64_at(m, is_datasync.next);
     let path_value = path.value;
     finish(
         id,
@@ -356,11 +426,12 @@ fn read_fsync(m: &[u8], c: Cursor, id: u32) -> RequestAnswer
     )
 }
 
+// open: path S, flags i32. Refuses 4, 5.
 fn read_open(m: &[u8], c: Cursor, id: u32) -> RequestAnswer
     ensures { λ r. ⌜ answerOf r ≡ answerAt (now (m .entry)) c id (requestNumber Open) ⌝ }
 {
-    let path = field::string_at(m, c);
-    let flags = field::i32_at(m, path.next);
+    let path = field_reader::string_at(m, c);
+    let flags = field_reader::i32_at(m, path.next);
     let path_value = path.value;
     finish(
         id,
@@ -372,12 +443,13 @@ fn read_open(m: &[u8], c: Cursor, id: u32) -> RequestAnswer
     )
 }
 
+// mknod: path S, mode u32, dev u64. Refuses 4, 5.
 fn read_mknod(m: &[u8], c: Cursor, id: u32) -> RequestAnswer
     ensures { λ r. ⌜ answerOf r ≡ answerAt (now (m .entry)) c id (requestNumber Mknod) ⌝ }
 {
-    let path = field::string_at(m, c);
-    let mode = field::u32_at(m, path.next);
-    let dev = field::u64_at(m, mode.next);
+    let path = field_reader::string_at(m, c);
+    let mode = field_reader::u32_at(m, path.next);
+    let dev = field_reader::u64_at(m, mode.next);
     let path_value = path.value;
     finish(
         id,
@@ -390,11 +462,12 @@ fn read_mknod(m: &[u8], c: Cursor, id: u32) -> RequestAnswer
     )
 }
 
+// create: path S, mode u32. Refuses 4, 5.
 fn read_create(m: &[u8], c: Cursor, id: u32) -> RequestAnswer
     ensures { λ r. ⌜ answerOf r ≡ answerAt (now (m .entry)) c id (requestNumber Create) ⌝ }
 {
-    let path = field::string_at(m, c);
-    let mode = field::u32_at(m, path.next);
+    let path = field_reader::string_at(m, c);
+    let mode = field_reader::u32_at(m, path.next);
     let path_value = path.value;
     finish(
         id,
@@ -406,11 +479,12 @@ fn read_create(m: &[u8], c: Cursor, id: u32) -> RequestAnswer
     )
 }
 
+// release: path S, handle u64. Refuses 4, 5.
 fn read_release(m: &[u8], c: Cursor, id: u32) -> RequestAnswer
     ensures { λ r. ⌜ answerOf r ≡ answerAt (now (m .entry)) c id (requestNumber Release) ⌝ }
 {
-    let path = field::string_at(m, c);
-    let handle = field::u64_at(m, path.next);
+    let path = field_reader::string_at(m, c);
+    let handle = field_reader::u64_at(m, path.next);
     let path_value = path.value;
     finish(
         id,
@@ -422,21 +496,23 @@ fn read_release(m: &[u8], c: Cursor, id: u32) -> RequestAnswer
     )
 }
 
+// unlink: path S. Refuses 4, 5.
 fn read_unlink(m: &[u8], c: Cursor, id: u32) -> RequestAnswer
     ensures { λ r. ⌜ answerOf r ≡ answerAt (now (m .entry)) c id (requestNumber Unlink) ⌝ }
 {
-    let path = field::string_at(m, c);
+    let path = field_reader::string_at(m, c);
     let path_value = path.value;
     finish(id, Request::Unlink { path: path_value }, path.next)
 }
 
+// read: path S, buffer_size u32, offset u64, handle u64. Refuses 4, 5.
 fn read_read(m: &[u8], c: Cursor, id: u32) -> RequestAnswer
     ensures { λ r. ⌜ answerOf r ≡ answerAt (now (m .entry)) c id (requestNumber Read) ⌝ }
 {
-    let path = field::string_at(m, c);
-    let buffer_size = field::u32_at(m, path.next);
-    let offset = field::u64_at(m, buffer_size.next);
-    let handle = field::u64_at(m, offset.next);
+    let path = field_reader::string_at(m, c);
+    let buffer_size = field_reader::u32_at(m, path.next);
+    let offset = field_reader::u64_at(m, buffer_size.next);
+    let handle = field_reader::u64_at(m, offset.next);
     let path_value = path.value;
     finish(
         id,
@@ -450,12 +526,13 @@ fn read_read(m: &[u8], c: Cursor, id: u32) -> RequestAnswer
     )
 }
 
+// write: data bytes, offset u64, handle u64. Refuses 4.
 fn read_write(m: &[u8], c: Cursor, id: u32) -> RequestAnswer
     ensures { λ r. ⌜ answerOf r ≡ answerAt (now (m .entry)) c id (requestNumber Write) ⌝ }
 {
-    let data = field::bytes_at(m, c);
-    let offset = field::u64_at(m, data.next);
-    let handle = field::u64_at(m, offset.next);
+    let data = field_reader::bytes_at(m, c);
+    let offset = field_reader::u64_at(m, data.next);
+    let handle = field_reader::u64_at(m, offset.next);
     let data_value = data.value;
     finish(
         id,
@@ -468,11 +545,12 @@ fn read_write(m: &[u8], c: Cursor, id: u32) -> RequestAnswer
     )
 }
 
+// mkdir: path S, mode u32. Refuses 4, 5.
 fn read_mkdir(m: &[u8], c: Cursor, id: u32) -> RequestAnswer
     ensures { λ r. ⌜ answerOf r ≡ answerAt (now (m .entry)) c id (requestNumber Mkdir) ⌝ }
 {
-    let path = field::string_at(m, c);
-    let mode = field::u32_at(m, path.next);
+    let path = field_reader::string_at(m, c);
+    let mode = field_reader::u32_at(m, path.next);
     let path_value = path.value;
     finish(
         id,
@@ -484,37 +562,41 @@ fn read_mkdir(m: &[u8], c: Cursor, id: u32) -> RequestAnswer
     )
 }
 
+// readdir: path S. Refuses 4, 5.
 fn read_readdir(m: &[u8], c: Cursor, id: u32) -> RequestAnswer
     ensures { λ r. ⌜ answerOf r ≡ answerAt (now (m .entry)) c id (requestNumber Readdir) ⌝ }
 {
-    let path = field::string_at(m, c);
+    let path = field_reader::string_at(m, c);
     let path_value = path.value;
     finish(id, Request::Readdir { path: path_value }, path.next)
 }
 
+// rmdir: path S. Refuses 4, 5.
 fn read_rmdir(m: &[u8], c: Cursor, id: u32) -> RequestAnswer
     ensures { λ r. ⌜ answerOf r ≡ answerAt (now (m .entry)) c id (requestNumber Rmdir) ⌝ }
 {
-    let path = field::string_at(m, c);
+    let path = field_reader::string_at(m, c);
     let path_value = path.value;
     finish(id, Request::Rmdir { path: path_value }, path.next)
 }
 
+// statfs: path S. Refuses 4, 5.
 fn read_statfs(m: &[u8], c: Cursor, id: u32) -> RequestAnswer
     ensures { λ r. ⌜ answerOf r ≡ answerAt (now (m .entry)) c id (requestNumber Statfs) ⌝ }
 {
-    let path = field::string_at(m, c);
+    let path = field_reader::string_at(m, c);
     let path_value = path.value;
     finish(id, Request::Statfs { path: path_value }, path.next)
 }
 
+// utimens: path S, atime, mtime, handle u64. Refuses 4, 5.
 fn read_utimens(m: &[u8], c: Cursor, id: u32) -> RequestAnswer
     ensures { λ r. ⌜ answerOf r ≡ answerAt (now (m .entry)) c id (requestNumber Utimens) ⌝ }
 {
-    let path = field::string_at(m, c);
-    let atime = field::timestamp_at(m, path.next);
-    let mtime = field::timestamp_at(m, atime.next);
-    let handle = field::u64_at(m, mtime.next);
+    let path = field_reader::string_at(m, c);
+    let atime = field_reader::timestamp_at(m, path.next);
+    let mtime = field_reader::timestamp_at(m, atime.next);
+    let handle = field_reader::u64_at(m, mtime.next);
     let path_value = path.value;
     let atime_value = atime.value;
     let mtime_value = mtime.value;
@@ -530,6 +612,7 @@ fn read_utimens(m: &[u8], c: Cursor, id: u32) -> RequestAnswer
     )
 }
 
+// getcreds: no fields.
 fn read_getcreds(m: &[u8], c: Cursor, id: u32) -> RequestAnswer
     ensures { λ r. ⌜ answerOf r ≡ answerAt (now (m .entry)) c id (requestNumber Getcreds) ⌝ }
 {

@@ -1,18 +1,15 @@
 // A request of any method, as the reader gives it, written into a lent buffer. What was read is written again by one call.
-ghost use mathlib.Core.List.{map};
-ghost use Rattle.field.specs.Values.{shownIn};
-ghost use Rattle.writer.specs.Writers.{Wrote};
-ghost use Rattle.request_reader.specs.Answers.{methodOf, valuesOf};
-ghost use Rattle.request_writer.specs.Asking.{asking};
-use field::bytes_of;
+ghost use Rattle.message_writer.specs.Writers.{Writes};
+ghost use Rattle.request_rewriter.specs.Rewriting.{rewriting};
+use message_writer::Written;
 use request_reader::Request;
 use request_writer::*;
-use writer::Written;
+use wire::bytes_of;
 
 // The runs of `request` are parts of `texts`: the message that was read, or any slice in which the texts and data stand. A run
 // that does not lie inside it is written as an empty one.
 pub fn write_request(id: u32, request: Request, texts: &[u8], out: &mut [u8]) -> Written
-    ensures { λ r. ⌜ Wrote (asking (methodOf request) id (map (shownIn (now (texts .entry))) (valuesOf request)) (now (out .entry))) (now (out .exit)) r ⌝ }
+    ensures { λ r. ⌜ Writes (rewriting request id (now (texts .entry))) (out .entry) (out .exit) r ⌝ }
 {
     match request {
         Request::Access { path, mode } => write_access(id, bytes_of(texts, path), mode, out),

@@ -7,22 +7,22 @@ use native.Mathlib.Omega.{arith}
 use lib.ListN.{length, length-append}
 use Rattle.number.specs.BigEndian.{bytesOf}
 use Rattle.number.proofs.BigEndian.{length-bytesOf}
-use Rattle.text.specs.Utf8.{wellFormed}
 use Rattle.method.specs.declared.Method.{Method}
 use Rattle.method.specs.Methods.{found, unknown as no-method, ofRequest}
-use Rattle.layout.specs.Kinds.{Kind, string}
+use Rattle.layout.specs.Kinds.{Kind}
+use Rattle.layout.specs.Refusals.{unexpectedType}
 use Rattle.layout.specs.Table.{request, asked, plan}
 use Rattle.layout.specs.Values.{Value, run}
 use Rattle.layout.specs.Reading.{unknown, known}
 use Rattle.layout.specs.Writing.{sized, encode, encodeAll, encodeMessage, textRight, textsRight, storeChecked, write}
-use Rattle.field.specs.declared.Cursor.{Cursor}
-use Rattle.writer.specs.declared.Written.{Written}
-use Rattle.writer.specs.declared.Written.the-variants.{Refused}
-use Rattle.request_writer.specs.Asking.{Started, StartedTwo}
-use Rattle.store.specs.Stored.{Puts, concat, Fields}
-use Rattle.writer.specs.Writers.{admitted, Ends, Wrote}
-use Rattle.store.proofs.Storing.{puts-then, encodings, concat-encodings, fields-put}
-use Rattle.writer.proofs.Writers.{wrote}
+use Rattle.wire.specs.declared.Cursor.{Cursor}
+use Rattle.message_writer.specs.declared.Written.{Written}
+use Rattle.message_writer.specs.declared.Written.the-variants.{Refused}
+use Rattle.request_writer.specs.Asking.{RequestStarted, runSize, runsSize}
+use Rattle.field_writer.specs.Stored.{Puts, concat, Fields}
+use Rattle.message_writer.specs.Writers.{admitted, Ends, Wrote}
+use Rattle.field_writer.proofs.Storing.{puts-then, encodings, concat-encodings, fields-put}
+use Rattle.message_writer.proofs.Writers.{wrote}
 
 -- the pieces are the request's, and their size was checked
 asks : (i t : ℕ) (vs : List (Value (List ℕ))) {l n : List ℕ} {f : Cursor} {es : List (List ℕ)} {r : Written} {ks : List Kind} (size : ℕ) (ok : Bool)
@@ -46,11 +46,11 @@ and-assoc false b c h = refl
 
 -- a request with one text or data, and numbers behind it that are stored in these pieces
 pub pieces-asks : (vs : List (Value (List ℕ))) (rest : List (List ℕ)) {ok : Bool} {l m n s : List ℕ} {d f : Cursor} {i t w : ℕ} {r : Written} {k : Kind} {ks : List Kind}
-    → Started ok l i t s w m d → Ends f r → plan request t ≡ asked (k ∷ ks) → encode k (run s) ≡ sized s → ok ≡ textRight k (run s)
+    → RequestStarted ok (s ∷ []) (runSize s w) i t l m d → Ends f r → plan request t ≡ asked (k ∷ ks) → encode k (run s) ≡ sized s → ok ≡ textRight k (run s)
     → textsRight ks vs ≡ true → length (encodeAll ks vs) ≡ w → concat rest ≡ encodeAll ks vs → Puts m d rest n f → Wrote (write request known i t (run s ∷ vs) true l) n r
 unfolding encodeMessage
 pieces-asks vs rest {ok} {l} {m} {n} {s} {d} {f} {i} {t} {w} {r} {k} {ks} start end p sizes text texts size these q =
-    asks i t (run s ∷ vs) (length s + 0 + (9 + w)) ok end p (text ∙ and-true (textRight k (run s)) ∙ rw texts) bytes long (puts-then (start .is) q)
+    asks i t (run s ∷ vs) (runSize s w) ok end p (text ∙ and-true (textRight k (run s)) ∙ rw texts) bytes long (puts-then (start .is) q)
   where
     head : List ℕ
     head = bytesOf 4 i ++ bytesOf 1 t
@@ -58,7 +58,7 @@ pieces-asks vs rest {ok} {l} {m} {n} {s} {d} {f} {i} {t} {w} {r} {k} {ks} start 
     bytes : concat (head ∷ sized s ∷ rest) ≡ encodeMessage request known i t (run s ∷ vs)
     bytes = rw (p, sizes, these, append-assoc (bytesOf 4 i) (bytesOf 1 t) (sized s ++ encodeAll ks vs))
 
-    long : length s + 0 + (9 + w) ≡ length (concat (head ∷ sized s ∷ rest))
+    long : runSize s w ≡ length (concat (head ∷ sized s ∷ rest))
     long =
         omega (
           arith,
@@ -75,17 +75,17 @@ pieces-asks vs rest {ok} {l} {m} {n} {s} {d} {f} {i} {t} {w} {r} {k} {ks} start 
 
 -- each number by itself
 pub run-asks : (vs : List (Value (List ℕ))) {ok : Bool} {l m n s : List ℕ} {d f : Cursor} {i t w : ℕ} {r : Written} {k : Kind} {ks : List Kind}
-    → Started ok l i t s w m d → Ends f r → plan request t ≡ asked (k ∷ ks) → encode k (run s) ≡ sized s → ok ≡ textRight k (run s)
+    → RequestStarted ok (s ∷ []) (runSize s w) i t l m d → Ends f r → plan request t ≡ asked (k ∷ ks) → encode k (run s) ≡ sized s → ok ≡ textRight k (run s)
     → textsRight ks vs ≡ true → length (encodeAll ks vs) ≡ w → Fields m d ks vs n f → Wrote (write request known i t (run s ∷ vs) true l) n r
 run-asks vs {ks = ks} start end p sizes text texts size q = pieces-asks vs (encodings ks vs) start end p sizes text texts size (concat-encodings ks vs) (fields-put q)
 
--- a request with two texts, and numbers behind them
-pub two-asks : (vs : List (Value (List ℕ))) {l m n s u : List ℕ} {d f : Cursor} {i t w : ℕ} {r : Written} {ks : List Kind}
-    → StartedTwo l i t s u w m d → Ends f r → plan request t ≡ asked (string ∷ string ∷ ks) → textsRight ks vs ≡ true
-    → length (encodeAll ks vs) ≡ w → Fields m d ks vs n f → Wrote (write request known i t (run s ∷ run u ∷ vs) true l) n r
+-- a request with two texts or data, and numbers behind them
+pub two-asks : (vs : List (Value (List ℕ))) {ok : Bool} {l m n s u : List ℕ} {d f : Cursor} {i t w : ℕ} {r : Written} {j k : Kind} {ks : List Kind}
+    → RequestStarted ok (s ∷ u ∷ []) (runsSize s u w) i t l m d → Ends f r → plan request t ≡ asked (j ∷ k ∷ ks) → encode j (run s) ≡ sized s → encode k (run u) ≡ sized u
+    → ok ≡ textRight j (run s) && textRight k (run u) → textsRight ks vs ≡ true → length (encodeAll ks vs) ≡ w → Fields m d ks vs n f → Wrote (write request known i t (run s ∷ run u ∷ vs) true l) n r
 unfolding encodeMessage
-two-asks vs {l} {m} {n} {s} {u} {d} {f} {i} {t} {w} {r} {ks} start end p texts size q =
-    asks i t (run s ∷ run u ∷ vs) (length s + length u + (13 + w)) (wellFormed s && wellFormed u) end p (and-assoc (wellFormed s) (wellFormed u) (textsRight ks vs) texts) bytes long
+two-asks vs {ok} {l} {m} {n} {s} {u} {d} {f} {i} {t} {w} {r} {j} {k} {ks} start end p sizes sizes′ text texts size q =
+    asks i t (run s ∷ run u ∷ vs) (runsSize s u w) ok end p (text ∙ and-assoc (textRight j (run s)) (textRight k (run u)) (textsRight ks vs) texts) bytes long
     (puts-then (start .is) (fields-put q))
   where
     rest : List (List ℕ)
@@ -98,9 +98,9 @@ two-asks vs {l} {m} {n} {s} {u} {d} {f} {i} {t} {w} {r} {ks} start end p texts s
     second = sized u ∷ rest
 
     bytes : concat (head ∷ sized s ∷ second) ≡ encodeMessage request known i t (run s ∷ run u ∷ vs)
-    bytes = rw (p, concat-encodings ks vs, append-assoc (bytesOf 4 i) (bytesOf 1 t) (sized s ++ (sized u ++ encodeAll ks vs)))
+    bytes = rw (p, sizes, sizes′, concat-encodings ks vs, append-assoc (bytesOf 4 i) (bytesOf 1 t) (sized s ++ (sized u ++ encodeAll ks vs)))
 
-    long : length s + length u + (13 + w) ≡ length (concat (head ∷ sized s ∷ second))
+    long : runsSize s u w ≡ length (concat (head ∷ sized s ∷ second))
     long =
         omega (
           arith,
@@ -119,7 +119,7 @@ two-asks vs {l} {m} {n} {s} {u} {d} {f} {i} {t} {w} {r} {ks} start end p texts s
         )
 
 -- a method's type is no unknown request's
-pub known-type : (i t : ℕ) (l : List ℕ) {m : Method} → ofRequest t ≡ found m → Wrote (write request unknown i t [] true l) l (Refused 3 0)
+pub known-type : (i t : ℕ) (l : List ℕ) {m : Method} → ofRequest t ≡ found m → Wrote (write request unknown i t [] true l) l (Refused unexpectedType 0)
 unfolding write plan
 known-type i t l e = record { tells = rw e; leaves = rw e }
 

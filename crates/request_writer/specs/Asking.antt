@@ -1,28 +1,43 @@
 -- What writing a request means.
 use Prim.Native.Nat.{ℕ, _+_}
 use mathlib.Core.Bool.{Bool, true, _&&_}
-use mathlib.Core.List.{List, [], _∷_, _++_}
+use mathlib.Core.List.{List, [], _∷_, _++_, map}
 use lib.ListN.{length}
+use denote.Ref.{RefT, now}
 use Rattle.number.specs.BigEndian.{bytesOf}
-use Rattle.text.specs.Utf8.{wellFormed}
 use Rattle.method.specs.declared.Method.{Method}
 use Rattle.method.specs.Methods.{requestNumber}
+use Rattle.layout.specs.Kinds.{u32, width}
+use Rattle.layout.specs.Limits.{headerSize}
 use Rattle.layout.specs.Table.{request}
 use Rattle.layout.specs.Values.{Value}
-use Rattle.layout.specs.Reading.{known}
-use Rattle.layout.specs.Writing.{Written, write, sized}
-use Rattle.field.specs.declared.Cursor.{Cursor}
-use Rattle.store.specs.Stored.{Puts}
-use Rattle.writer.specs.Writers.{admitted}
+use Rattle.layout.specs.Reading.{known, validBy}
+use Rattle.layout.specs.Writing.{WriteOutcome, write, sized}
+use Rattle.wire.specs.declared.Cursor.{Cursor}
+use Rattle.field_writer.specs.Stored.{Puts}
+use Rattle.message_writer.specs.Writers.{admitted}
 
 -- the request of a method with this id and these values, in this buffer
-abbrev pub asking : Method → ℕ → List (Value (List ℕ)) → List ℕ → Written
+abbrev pub asking : Method → ℕ → List (Value (List ℕ)) → List ℕ → WriteOutcome
 asking m i vs out = write request known i (requestNumber m) vs true out
 
--- the header and the run s of a request whose numbers take w bytes, stored where it passes the checks. `ok`: its text is well-formed
-pub record Started (ok : Bool) (l : List ℕ) (i t : ℕ) (s : List ℕ) (w : ℕ) (m : List ℕ) (d : Cursor) : Type 0 where
-  pub is : Puts l (admitted ok (length s + 0 + (9 + w)) (length l)) ((bytesOf 4 i ++ bytesOf 1 t) ∷ sized s ∷ []) m d
+-- the header and the runs ss of a request of `size` bytes were stored into l, which became m, where it passes the checks, and d is behind
+-- them. `right`: its texts are well-formed
+pub record RequestStarted (right : Bool) (ss : List (List ℕ)) (size i t : ℕ) (l m : List ℕ) (d : Cursor) : Type 0 where
+  pub is : Puts l (admitted right size (length l)) ((bytesOf 4 i ++ bytesOf 1 t) ∷ map sized ss) m d
 
--- the same with two texts
-pub record StartedTwo (l : List ℕ) (i t : ℕ) (s u : List ℕ) (w : ℕ) (m : List ℕ) (d : Cursor) : Type 0 where
-  pub is : Puts l (admitted (wellFormed s && wellFormed u) (length s + length u + (13 + w)) (length l)) ((bytesOf 4 i ++ bytesOf 1 t) ∷ sized s ∷ sized u ∷ []) m d
+-- the bytes of a request with one run, and with two, whose numbers take w bytes
+abbrev pub runSize : List ℕ → ℕ → ℕ
+runSize s w = length s + 0 + (headerSize + width u32 + w)
+
+abbrev pub runsSize : List ℕ → List ℕ → ℕ → ℕ
+runsSize s u w = length s + length u + (headerSize + width u32 + width u32 + w)
+
+-- such a request began in a lent buffer; a run that is marked as text is looked at
+abbrev pub RunStarted : Bool → RefT (List ℕ) → ℕ → ℕ → ℕ → RefT (List ℕ) → RefT (List ℕ) → Cursor → Type 0
+RunStarted text s w i t before after =
+    RequestStarted (validBy text (now s)) (now s ∷ []) (runSize (now s) w) i t (now before) (now after)
+
+abbrev pub RunsStarted : Bool → RefT (List ℕ) → Bool → RefT (List ℕ) → ℕ → ℕ → ℕ → RefT (List ℕ) → RefT (List ℕ) → Cursor → Type 0
+RunsStarted text s text′ u w i t before after =
+    RequestStarted (validBy text (now s) && validBy text′ (now u)) (now s ∷ now u ∷ []) (runsSize (now s) (now u) w) i t (now before) (now after)

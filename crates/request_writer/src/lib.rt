@@ -4,61 +4,86 @@ ghost use mathlib.Core.Path.{_≡_};
 ghost use mathlib.Core.Bool.{true, _&&_};
 ghost use mathlib.Core.List.{[], _∷_};
 ghost use Prim.Native.Nat.{_≤_};
-ghost use Rattle.text.specs.Utf8.{wellFormed};
 ghost use Rattle.method.specs.declared.Method.the-variants as methods;
 ghost use Rattle.layout.specs.Values.{number, signed, truth, run};
 ghost use Rattle.layout.specs.Table.{request};
-ghost use Rattle.layout.specs.Reading.{unknown};
+ghost use Rattle.layout.specs.Reading.{unknown, validBy};
 ghost use Rattle.layout.specs.Writing.{write};
-ghost use Rattle.writer.specs.Writers.{Wrote};
-ghost use Rattle.request_writer.specs.Asking.{asking, Started, StartedTwo};
-use field::Cursor;
-use field::Timestamp;
+ghost use Rattle.wire.specs.Values.{renameValues, readValues, utimensValues};
+ghost use Rattle.message_writer.specs.Writers.{Writes};
+ghost use Rattle.request_writer.specs.Asking.{asking, RunStarted, RunsStarted};
+use message_writer::Written;
 use method::Lookup;
 use method::Method;
-use writer::Written;
+use wire::Cursor;
+use wire::Header;
+use wire::Refusal;
+use wire::Run;
+use wire::Timestamp;
 
-// The header and the path of a request whose numbers take so many bytes, if it passes the checks.
+// What a request has besides its numbers and the bytes of its one run, or of its two: header and lengths.
+const BESIDES_RUN: usize = Header::SIZE + Run::LENGTH_SIZE;
+
+const BESIDES_RUNS: usize = Header::SIZE + Run::LENGTH_SIZE + Run::LENGTH_SIZE;
+
+// The header and the one run of a request whose numbers take so many bytes, if it passes the checks.
 // Asks for at most 64 bytes of numbers, so that the sum does not wrap: no method has more than 32.
-fn start_path(out: &mut [u8], id: u32, kind: u8, path: &[u8], numbers: usize) -> Cursor
-    requires { ⌜ numbers ≤ 64 ⌝ }
-    ensures { λ r. ⌜ Started (wellFormed (now (path .entry))) (now (out .entry)) id kind (now (path .entry)) numbers (now (out .exit)) r ⌝ }
-{
-    let texts = writer::is_text(path);
-    let place = writer::admit(texts, path.len(), 0, 9 + numbers, out.len());
-    let header = store::put_header(out, place, id, kind);
-    store::put_run(out, header, path)
-}
-
-// The same with data, which is not looked at.
-// Asks for at most 64 bytes of numbers too: the write request has 16.
-fn start_data(out: &mut [u8], id: u32, kind: u8, data: &[u8], numbers: usize) -> Cursor
-    requires { ⌜ numbers ≤ 64 ⌝ }
-    ensures { λ r. ⌜ Started true (now (out .entry)) id kind (now («data» .entry)) numbers (now (out .exit)) r ⌝ }
-{
-    let place = writer::admit(true, data.len(), 0, 9 + numbers, out.len());
-    let header = store::put_header(out, place, id, kind);
-    store::put_run(out, header, data)
-}
-
-// The same with two paths.
-// Asks for at most 64 bytes of numbers too: no request with two paths has more than 1.
-fn start_paths(
+fn start_run(
     out: &mut [u8],
     id: u32,
-    kind: u8,
+    type_number: u8,
     first: &[u8],
-    second: &[u8],
+    first_is_text: bool,
     numbers: usize,
 ) -> Cursor
     requires { ⌜ numbers ≤ 64 ⌝ }
-    ensures { λ r. ⌜ StartedTwo (now (out .entry)) id kind (now (first .entry)) (now (second .entry)) numbers (now (out .exit)) r ⌝ }
+    ensures { λ r. ⌜ RunStarted «first_is_text» (first .entry) numbers id «type_number» (out .entry) (out .exit) r ⌝ }
 {
-    let texts = both(writer::is_text(first), writer::is_text(second));
-    let place = writer::admit(texts, first.len(), second.len(), 13 + numbers, out.len());
-    let header = store::put_header(out, place, id, kind);
-    let behind = store::put_run(out, header, first);
-    store::put_run(out, behind, second)
+    let right = is_right(first, first_is_text);
+    let place = message_writer::admit(right, first.len(), 0, BESIDES_RUN + numbers, out.len());
+    let header = field_writer::put_header(out, place, id, type_number);
+    field_writer::put_run(out, header, first)
+}
+
+// The same with two runs.
+// Asks for at most 64 bytes of numbers too: no request with two runs has more than 1.
+fn start_runs(
+    out: &mut [u8],
+    id: u32,
+    type_number: u8,
+    first: &[u8],
+    first_is_text: bool,
+    second: &[u8],
+    second_is_text: bool,
+    numbers: usize,
+) -> Cursor
+    requires { ⌜ numbers ≤ 64 ⌝ }
+    ensures { λ r. ⌜ RunsStarted «first_is_text» (first .entry) «second_is_text» (second .entry) numbers id «type_number» (out .entry) (out .exit) r ⌝ }
+{
+    let right = both(
+        is_right(first, first_is_text),
+        is_right(second, second_is_text),
+    );
+    let place = message_writer::admit(
+        right,
+        first.len(),
+        second.len(),
+        BESIDES_RUNS + numbers,
+        out.len(),
+    );
+    let header = field_writer::put_header(out, place, id, type_number);
+    let behind = field_writer::put_run(out, header, first);
+    field_writer::put_run(out, behind, second)
+}
+
+// Whether a run passes its check: text is well-formed, and data is not looked at.
+fn is_right(bytes: &[u8], is_text: bool) -> bool
+    ensures { λ r. ⌜ r ≡ validBy «is_text» (now (bytes .entry)) ⌝ }
+{
+    if is_text {
+        return message_writer::is_text(bytes);
+    }
+    true
 }
 
 fn both(a: bool, b: bool) -> bool
@@ -70,125 +95,141 @@ fn both(a: bool, b: bool) -> bool
     false
 }
 
+// access: path S, mode i8. Refuses 5, 2, 7.
 pub fn write_access(id: u32, path: &[u8], mode: i8, out: &mut [u8]) -> Written
-    ensures { λ r. ⌜ Wrote (asking methods.Access id (run (now (path .entry)) ∷ signed mode ∷ []) (now (out .entry))) (now (out .exit)) r ⌝ }
+    ensures { λ r. ⌜ Writes (asking methods.Access id (run (now (path .entry)) ∷ signed mode ∷ [])) (out .entry) (out .exit) r ⌝ }
 {
-    let start = start_path(out, id, Method::ACCESS, path, 1);
-    let behind_mode = store::put_i8(out, start, mode);
-    writer::finish(behind_mode)
+    let start = start_run(out, id, Method::ACCESS, path, true, 1);
+    let behind_mode = field_writer::put_i8(out, start, mode);
+    message_writer::finish(behind_mode)
 }
 
+// getattr: path S. Refuses 5, 2, 7.
 pub fn write_getattr(id: u32, path: &[u8], out: &mut [u8]) -> Written
-    ensures { λ r. ⌜ Wrote (asking methods.Getattr id (run (now (path .entry)) ∷ []) (now (out .entry))) (now (out .exit)) r ⌝ }
+    ensures { λ r. ⌜ Writes (asking methods.Getattr id (run (now (path .entry)) ∷ [])) (out .entry) (out .exit) r ⌝ }
 {
-    let start = start_path(out, id, Method::GETATTR, path, 0);
-    writer::finish(start)
+    let start = start_run(out, id, Method::GETATTR, path, true, 0);
+    message_writer::finish(start)
 }
 
+// readlink: path S. Refuses 5, 2, 7.
 pub fn write_readlink(id: u32, path: &[u8], out: &mut [u8]) -> Written
-    ensures { λ r. ⌜ Wrote (asking methods.Readlink id (run (now (path .entry)) ∷ []) (now (out .entry))) (now (out .exit)) r ⌝ }
+    ensures { λ r. ⌜ Writes (asking methods.Readlink id (run (now (path .entry)) ∷ [])) (out .entry) (out .exit) r ⌝ }
 {
-    let start = start_path(out, id, Method::READLINK, path, 0);
-    writer::finish(start)
+    let start = start_run(out, id, Method::READLINK, path, true, 0);
+    message_writer::finish(start)
 }
 
+// symlink: target S, linkpath S. Refuses 5, 2, 7.
 pub fn write_symlink(id: u32, target: &[u8], linkpath: &[u8], out: &mut [u8]) -> Written
-    ensures { λ r. ⌜ Wrote (asking methods.Symlink id (run (now (target .entry)) ∷ run (now (linkpath .entry)) ∷ []) (now (out .entry))) (now (out .exit)) r ⌝ }
+    ensures { λ r. ⌜ Writes (asking methods.Symlink id (run (now (target .entry)) ∷ run (now (linkpath .entry)) ∷ [])) (out .entry) (out .exit) r ⌝ }
 {
-    let start = start_paths(out, id, Method::SYMLINK, target, linkpath, 0);
-    writer::finish(start)
+    let start = start_runs(out, id, Method::SYMLINK, target, true, linkpath, true, 0);
+    message_writer::finish(start)
 }
 
+// link: old_path S, new_path S. Refuses 5, 2, 7.
 pub fn write_link(id: u32, old_path: &[u8], new_path: &[u8], out: &mut [u8]) -> Written
-    ensures { λ r. ⌜ Wrote (asking methods.Link id (run (now («old_path» .entry)) ∷ run (now («new_path» .entry)) ∷ []) (now (out .entry))) (now (out .exit)) r ⌝ }
+    ensures { λ r. ⌜ Writes (asking methods.Link id (run (now («old_path» .entry)) ∷ run (now («new_path» .entry)) ∷ [])) (out .entry) (out .exit) r ⌝ }
 {
-    let start = start_paths(out, id, Method::LINK, old_path, new_path, 0);
-    writer::finish(start)
+    let start = start_runs(out, id, Method::LINK, old_path, true, new_path, true, 0);
+    message_writer::finish(start)
 }
 
+// rename: old_path S, new_path S, flags u8. Refuses 5, 2, 7.
 pub fn write_rename(id: u32, old_path: &[u8], new_path: &[u8], flags: u8, out: &mut [u8]) -> Written
-    ensures { λ r. ⌜ Wrote (asking methods.Rename id (run (now («old_path» .entry)) ∷ run (now («new_path» .entry)) ∷ number flags ∷ []) (now (out .entry))) (now (out .exit)) r ⌝ }
+    ensures { λ r. ⌜ Writes (asking methods.Rename id (renameValues (now («old_path» .entry)) (now («new_path» .entry)) flags)) (out .entry) (out .exit) r ⌝ }
 {
-    let start = start_paths(out, id, Method::RENAME, old_path, new_path, 1);
-    let behind_flags = store::put_u8(out, start, flags);
-    writer::finish(behind_flags)
+    let start = start_runs(out, id, Method::RENAME, old_path, true, new_path, true, 1);
+    let behind_flags = field_writer::put_u8(out, start, flags);
+    message_writer::finish(behind_flags)
 }
 
+// chmod: path S, mode u32. Refuses 5, 2, 7.
 pub fn write_chmod(id: u32, path: &[u8], mode: u32, out: &mut [u8]) -> Written
-    ensures { λ r. ⌜ Wrote (asking methods.Chmod id (run (now (path .entry)) ∷ number mode ∷ []) (now (out .entry))) (now (out .exit)) r ⌝ }
+    ensures { λ r. ⌜ Writes (asking methods.Chmod id (run (now (path .entry)) ∷ number mode ∷ [])) (out .entry) (out .exit) r ⌝ }
 {
-    let start = start_path(out, id, Method::CHMOD, path, 4);
-    let behind_mode = store::put_u32(out, start, mode);
-    writer::finish(behind_mode)
+    let start = start_run(out, id, Method::CHMOD, path, true, 4);
+    let behind_mode = field_writer::put_u32(out, start, mode);
+    message_writer::finish(behind_mode)
 }
 
+// chown: path S, uid u32, gid u32. Refuses 5, 2, 7.
 pub fn write_chown(id: u32, path: &[u8], uid: u32, gid: u32, out: &mut [u8]) -> Written
-    ensures { λ r. ⌜ Wrote (asking methods.Chown id (run (now (path .entry)) ∷ number uid ∷ number gid ∷ []) (now (out .entry))) (now (out .exit)) r ⌝ }
+    ensures { λ r. ⌜ Writes (asking methods.Chown id (run (now (path .entry)) ∷ number uid ∷ number gid ∷ [])) (out .entry) (out .exit) r ⌝ }
 {
-    let start = start_path(out, id, Method::CHOWN, path, 8);
-    let behind_uid = store::put_u32(out, start, uid);
-    let behind_gid = store::put_u32(out, behind_uid, gid);
-    writer::finish(behind_gid)
+    let start = start_run(out, id, Method::CHOWN, path, true, 8);
+    let behind_uid = field_writer::put_u32(out, start, uid);
+    let behind_gid = field_writer::put_u32(out, behind_uid, gid);
+    message_writer::finish(behind_gid)
 }
 
+// truncate: path S, size u64, handle u64. Refuses 5, 2, 7.
 pub fn write_truncate(id: u32, path: &[u8], size: u64, handle: u64, out: &mut [u8]) -> Written
-    ensures { λ r. ⌜ Wrote (asking methods.Truncate id (run (now (path .entry)) ∷ number size ∷ number handle ∷ []) (now (out .entry))) (now (out .exit)) r ⌝ }
+    ensures { λ r. ⌜ Writes (asking methods.Truncate id (run (now (path .entry)) ∷ number size ∷ number handle ∷ [])) (out .entry) (out .exit) r ⌝ }
 {
-    let start = start_path(out, id, Method::TRUNCATE, path, 16);
-    let behind_size = store::put_u64(out, start, size);
-    let behind_handle = store::put_u64(out, behind_size, handle);
-    writer::finish(behind_handle)
+    let start = start_run(out, id, Method::TRUNCATE, path, true, 16);
+    let behind_size = field_writer::put_u64(out, start, size);
+    let behind_handle = field_writer::put_u64(out, behind_size, handle);
+    message_writer::finish(behind_handle)
 }
 
+// fsync: path S, is_datasync bool, handle u64. Refuses 5, 2, 7.
 pub fn write_fsync(id: u32, path: &[u8], is_datasync: bool, handle: u64, out: &mut [u8]) -> Written
-    ensures { λ r. ⌜ Wrote (asking methods.Fsync id (run (now (path .entry)) ∷ truth «is_datasync» ∷ number handle ∷ []) (now (out .entry))) (now (out .exit)) r ⌝ }
+    ensures { λ r. ⌜ Writes (asking methods.Fsync id (run (now (path .entry)) ∷ truth «is_datasync» ∷ number handle ∷ [])) (out .entry) (out .exit) r ⌝ }
 {
-    let start = start_path(out, id, Method::FSYNC, path, 9);
-    let behind_is_datasync = store::put_bool(out, start, is_datasync);
-    let behind_handle = store::put_u64(out, behind_is_datasync, handle);
-    writer::finish(behind_handle)
+    let start = start_run(out, id, Method::FSYNC, path, true, 9);
+    let behind_is_datasync = field_writer::put_bool(out, start, is_datasync);
+    let behind_handle = field_writer::put_u64(out, behind_is_datasync, handle);
+    message_writer::finish(behind_handle)
 }
 
+// open: path S, flags i32. Refuses 5, 2, 7.
 pub fn write_open(id: u32, path: &[u8], flags: i32, out: &mut [u8]) -> Written
-    ensures { λ r. ⌜ Wrote (asking methods.Open id (run (now (path .entry)) ∷ signed flags ∷ []) (now (out .entry))) (now (out .exit)) r ⌝ }
+    ensures { λ r. ⌜ Writes (asking methods.Open id (run (now (path .entry)) ∷ signed flags ∷ [])) (out .entry) (out .exit) r ⌝ }
 {
-    let start = start_path(out, id, Method::OPEN, path, 4);
-    let behind_flags = store::put_i32(out, start, flags);
-    writer::finish(behind_flags)
+    let start = start_run(out, id, Method::OPEN, path, true, 4);
+    let behind_flags = field_writer::put_i32(out, start, flags);
+    message_writer::finish(behind_flags)
 }
 
+// mknod: path S, mode u32, dev u64. Refuses 5, 2, 7.
 pub fn write_mknod(id: u32, path: &[u8], mode: u32, dev: u64, out: &mut [u8]) -> Written
-    ensures { λ r. ⌜ Wrote (asking methods.Mknod id (run (now (path .entry)) ∷ number mode ∷ number dev ∷ []) (now (out .entry))) (now (out .exit)) r ⌝ }
+    ensures { λ r. ⌜ Writes (asking methods.Mknod id (run (now (path .entry)) ∷ number mode ∷ number dev ∷ [])) (out .entry) (out .exit) r ⌝ }
 {
-    let start = start_path(out, id, Method::MKNOD, path, 12);
-    let behind_mode = store::put_u32(out, start, mode);
-    let behind_dev = store::put_u64(out, behind_mode, dev);
-    writer::finish(behind_dev)
+    let start = start_run(out, id, Method::MKNOD, path, true, 12);
+    let behind_mode = field_writer::put_u32(out, start, mode);
+    let behind_dev = field_writer::put_u64(out, behind_mode, dev);
+    message_writer::finish(behind_dev)
 }
 
+// create: path S, mode u32. Refuses 5, 2, 7.
 pub fn write_create(id: u32, path: &[u8], mode: u32, out: &mut [u8]) -> Written
-    ensures { λ r. ⌜ Wrote (asking methods.Create id (run (now (path .entry)) ∷ number mode ∷ []) (now (out .entry))) (now (out .exit)) r ⌝ }
+    ensures { λ r. ⌜ Writes (asking methods.Create id (run (now (path .entry)) ∷ number mode ∷ [])) (out .entry) (out .exit) r ⌝ }
 {
-    let start = start_path(out, id, Method::CREATE, path, 4);
-    let behind_mode = store::put_u32(out, start, mode);
-    writer::finish(behind_mode)
+    let start = start_run(out, id, Method::CREATE, path, true, 4);
+    let behind_mode = field_writer::put_u32(out, start, mode);
+    message_writer::finish(behind_mode)
 }
 
+// release: path S, handle u64. Refuses 5, 2, 7.
 pub fn write_release(id: u32, path: &[u8], handle: u64, out: &mut [u8]) -> Written
-    ensures { λ r. ⌜ Wrote (asking methods.Release id (run (now (path .entry)) ∷ number handle ∷ []) (now (out .entry))) (now (out .exit)) r ⌝ }
+    ensures { λ r. ⌜ Writes (asking methods.Release id (run (now (path .entry)) ∷ number handle ∷ [])) (out .entry) (out .exit) r ⌝ }
 {
-    let start = start_path(out, id, Method::RELEASE, path, 8);
-    let behind_handle = store::put_u64(out, start, handle);
-    writer::finish(behind_handle)
+    let start = start_run(out, id, Method::RELEASE, path, true, 8);
+    let behind_handle = field_writer::put_u64(out, start, handle);
+    message_writer::finish(behind_handle)
 }
 
+// unlink: path S. Refuses 5, 2, 7.
 pub fn write_unlink(id: u32, path: &[u8], out: &mut [u8]) -> Written
-    ensures { λ r. ⌜ Wrote (asking methods.Unlink id (run (now (path .entry)) ∷ []) (now (out .entry))) (now (out .exit)) r ⌝ }
+    ensures { λ r. ⌜ Writes (asking methods.Unlink id (run (now (path .entry)) ∷ [])) (out .entry) (out .exit) r ⌝ }
 {
-    let start = start_path(out, id, Method::UNLINK, path, 0);
-    writer::finish(start)
+    let start = start_run(out, id, Method::UNLINK, path, true, 0);
+    message_writer::finish(start)
 }
 
+// read: path S, buffer_size u32, offset u64, handle u64. Refuses 5, 2, 7.
 pub fn write_read(
     id: u32,
     path: &[u8],
@@ -197,53 +238,59 @@ pub fn write_read(
     handle: u64,
     out: &mut [u8],
 ) -> Written
-    ensures { λ r. ⌜ Wrote (asking methods.Read id (run (now (path .entry)) ∷ number «buffer_size» ∷ number offset ∷ number handle ∷ []) (now (out .entry))) (now (out .exit)) r ⌝ }
+    ensures { λ r. ⌜ Writes (asking methods.Read id (readValues (now (path .entry)) «buffer_size» offset handle)) (out .entry) (out .exit) r ⌝ }
 {
-    let start = start_path(out, id, Method::READ, path, 20);
-    let behind_buffer_size = store::put_u32(out, start, buffer_size);
-    let behind_offset = store::put_u64(out, behind_buffer_size, offset);
-    let behind_handle = store::put_u64(out, behind_offset, handle);
-    writer::finish(behind_handle)
+    let start = start_run(out, id, Method::READ, path, true, 20);
+    let behind_buffer_size = field_writer::put_u32(out, start, buffer_size);
+    let behind_offset = field_writer::put_u64(out, behind_buffer_size, offset);
+    let behind_handle = field_writer::put_u64(out, behind_offset, handle);
+    message_writer::finish(behind_handle)
 }
 
+// write: data bytes, offset u64, handle u64. Refuses 2, 7.
 pub fn write_write(id: u32, data: &[u8], offset: u64, handle: u64, out: &mut [u8]) -> Written
-    ensures { λ r. ⌜ Wrote (asking methods.Write id (run (now («data» .entry)) ∷ number offset ∷ number handle ∷ []) (now (out .entry))) (now (out .exit)) r ⌝ }
+    ensures { λ r. ⌜ Writes (asking methods.Write id (run (now («data» .entry)) ∷ number offset ∷ number handle ∷ [])) (out .entry) (out .exit) r ⌝ }
 {
-    let start = start_data(out, id, Method::WRITE, data, 16);
-    let behind_offset = store::put_u64(out, start, offset);
-    let behind_handle = store::put_u64(out, behind_offset, handle);
-    writer::finish(behind_handle)
+    let start = start_run(out, id, Method::WRITE, data, false, 16);
+    let behind_offset = field_writer::put_u64(out, start, offset);
+    let behind_handle = field_writer::put_u64(out, behind_offset, handle);
+    message_writer::finish(behind_handle)
 }
 
+// mkdir: path S, mode u32. Refuses 5, 2, 7.
 pub fn write_mkdir(id: u32, path: &[u8], mode: u32, out: &mut [u8]) -> Written
-    ensures { λ r. ⌜ Wrote (asking methods.Mkdir id (run (now (path .entry)) ∷ number mode ∷ []) (now (out .entry))) (now (out .exit)) r ⌝ }
+    ensures { λ r. ⌜ Writes (asking methods.Mkdir id (run (now (path .entry)) ∷ number mode ∷ [])) (out .entry) (out .exit) r ⌝ }
 {
-    let start = start_path(out, id, Method::MKDIR, path, 4);
-    let behind_mode = store::put_u32(out, start, mode);
-    writer::finish(behind_mode)
+    let start = start_run(out, id, Method::MKDIR, path, true, 4);
+    let behind_mode = field_writer::put_u32(out, start, mode);
+    message_writer::finish(behind_mode)
 }
 
+// readdir: path S. Refuses 5, 2, 7.
 pub fn write_readdir(id: u32, path: &[u8], out: &mut [u8]) -> Written
-    ensures { λ r. ⌜ Wrote (asking methods.Readdir id (run (now (path .entry)) ∷ []) (now (out .entry))) (now (out .exit)) r ⌝ }
+    ensures { λ r. ⌜ Writes (asking methods.Readdir id (run (now (path .entry)) ∷ [])) (out .entry) (out .exit) r ⌝ }
 {
-    let start = start_path(out, id, Method::READDIR, path, 0);
-    writer::finish(start)
+    let start = start_run(out, id, Method::READDIR, path, true, 0);
+    message_writer::finish(start)
 }
 
+// rmdir: path S. Refuses 5, 2, 7.
 pub fn write_rmdir(id: u32, path: &[u8], out: &mut [u8]) -> Written
-    ensures { λ r. ⌜ Wrote (asking methods.Rmdir id (run (now (path .entry)) ∷ []) (now (out .entry))) (now (out .exit)) r ⌝ }
+    ensures { λ r. ⌜ Writes (asking methods.Rmdir id (run (now (path .entry)) ∷ [])) (out .entry) (out .exit) r ⌝ }
 {
-    let start = start_path(out, id, Method::RMDIR, path, 0);
-    writer::finish(start)
+    let start = start_run(out, id, Method::RMDIR, path, true, 0);
+    message_writer::finish(start)
 }
 
+// statfs: path S. Refuses 5, 2, 7.
 pub fn write_statfs(id: u32, path: &[u8], out: &mut [u8]) -> Written
-    ensures { λ r. ⌜ Wrote (asking methods.Statfs id (run (now (path .entry)) ∷ []) (now (out .entry))) (now (out .exit)) r ⌝ }
+    ensures { λ r. ⌜ Writes (asking methods.Statfs id (run (now (path .entry)) ∷ [])) (out .entry) (out .exit) r ⌝ }
 {
-    let start = start_path(out, id, Method::STATFS, path, 0);
-    writer::finish(start)
+    let start = start_run(out, id, Method::STATFS, path, true, 0);
+    message_writer::finish(start)
 }
 
+// utimens: path S, atime, mtime, handle u64. Refuses 5, 2, 7.
 pub fn write_utimens(
     id: u32,
     path: &[u8],
@@ -252,35 +299,36 @@ pub fn write_utimens(
     handle: u64,
     out: &mut [u8],
 ) -> Written
-    ensures { λ r. ⌜ Wrote (asking methods.Utimens id (run (now (path .entry)) ∷ number (atime .seconds) ∷ number (atime .nsec) ∷ number (mtime .seconds) ∷ number (mtime .nsec) ∷ number handle ∷ []) (now (out .entry))) (now (out .exit)) r ⌝ }
+    ensures { λ r. ⌜ Writes (asking methods.Utimens id (utimensValues (now (path .entry)) atime mtime handle)) (out .entry) (out .exit) r ⌝ }
 {
-    let start = start_path(out, id, Method::UTIMENS, path, 32);
-    let behind_atime = structures::put_timestamp(out, start, atime);
-    let behind_mtime = structures::put_timestamp(out, behind_atime, mtime);
-    let behind_handle = store::put_u64(out, behind_mtime, handle);
-    writer::finish(behind_handle)
+    let start = start_run(out, id, Method::UTIMENS, path, true, 32);
+    let behind_atime = structure_writer::put_timestamp(out, start, atime);
+    let behind_mtime = structure_writer::put_timestamp(out, behind_atime, mtime);
+    let behind_handle = field_writer::put_u64(out, behind_mtime, handle);
+    message_writer::finish(behind_handle)
 }
 
+// getcreds: no fields. Refuses 7.
 pub fn write_getcreds(id: u32, out: &mut [u8]) -> Written
-    ensures { λ r. ⌜ Wrote (asking methods.Getcreds id [] (now (out .entry))) (now (out .exit)) r ⌝ }
+    ensures { λ r. ⌜ Writes (asking methods.Getcreds id []) (out .entry) (out .exit) r ⌝ }
 {
-    let header = store::put_header(out, Cursor { code: 0, at: 0 }, id, Method::GETCREDS);
-    writer::finish(header)
+    let header = field_writer::put_header(out, Cursor::START, id, Method::GETCREDS);
+    message_writer::finish(header)
 }
 
-// A request of a type that is no method's. A method's type is refused.
-pub fn write_unknown(id: u32, kind: u8, out: &mut [u8]) -> Written
-    ensures { λ r. ⌜ Wrote (write request unknown id kind [] true (now (out .entry))) (now (out .exit)) r ⌝ }
+// A request of a type that is no method's: the header alone. Refuses 3, 7.
+pub fn write_unknown(id: u32, type_number: u8, out: &mut [u8]) -> Written
+    ensures { λ r. ⌜ Writes (write request unknown id «type_number» [] true) (out .entry) (out .exit) r ⌝ }
 {
-    let found = Method::of_request(kind);
+    let found = Method::of_request(type_number);
     match found {
         Lookup::Found(_) => Written::Refused {
-            number: 3,
+            number: Refusal::UNEXPECTED_TYPE,
             place: 0,
         },
         Lookup::Unknown => {
-            let header = store::put_header(out, Cursor { code: 0, at: 0 }, id, kind);
-            writer::finish(header)
+            let header = field_writer::put_header(out, Cursor::START, id, type_number);
+            message_writer::finish(header)
         }
     }
 }

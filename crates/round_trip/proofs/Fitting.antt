@@ -2,7 +2,7 @@
 use Prim.Native.Nat.{ℕ, _<_, _^_}
 use mathlib.Core.Path.{refl}
 use mathlib.Core.Bool.{Bool}
-use mathlib.Core.List.{List, [], _∷_, map}
+use mathlib.Core.List.{List, _∷_, _++_}
 use lib.IntN.{ℤ}
 use lib.Signed.{mag}
 use mir.Syntax.{w8, w32}
@@ -11,33 +11,34 @@ use denote.Laws.{Is}
 use denote.Enum.Laws as enum
 use denote.Struct.Laws as struct
 use Rattle.number.proofs.TwosComplement.{machine-fits}
-use Rattle.layout.specs.Kinds.{u8 as k-u8, i8 as k-i8, u32 as k-u32, i32 as k-i32, u64 as k-u64, bool as k-bool, Kind, num, string, bytes, strings, kinds, attributes as attributesFields, statistics as statisticsFields}
+use Rattle.layout.specs.Kinds.{u8 as k-u8, i8 as k-i8, u32 as k-u32, i32 as k-i32, u64 as k-u64, bool as k-bool, Kind, num, string, bytes, timeKinds, kinds, attributes as attributesFields, statistics as statisticsFields}
 use Rattle.method.specs.Methods.{ofReply}
 use Rattle.layout.specs.Table.{row, reply, plan}
 use Rattle.layout.specs.Values.{Value, number, signed, truth, run, AllFit, none, more, fits-num, fits-u8, fits-u32, fits-u64, fits-i8, fits-i32, fits-bool, fits-string, fits-bytes, fits-strings}
 use Rattle.layout.specs.Reading.{success}
 use Rattle.layout.specs.Pieces.{kindsOf}
-use Rattle.field.specs.Values.{shownIn, attributesValues, statisticsValues}
-use Rattle.field.specs.declared.Timestamp.{Timestamp}
-use Rattle.field.specs.declared.Attributes.{Attributes}
-use Rattle.field.specs.declared.Statistics.{Statistics}
-use Rattle.field.proofs.Timestamp as time
-use Rattle.field.proofs.Timestamp.Laws as time′
-use Rattle.field.proofs.Attributes as attributes
-use Rattle.field.proofs.Attributes.Laws as attributes′
-use Rattle.field.proofs.Statistics as statistics
-use Rattle.field.proofs.Statistics.Laws as statistics′
+use Rattle.wire.specs.Values.{timeValues, attributesValues, statisticsValues}
+use Rattle.wire.specs.declared.Timestamp.{Timestamp}
+use Rattle.wire.specs.declared.Attributes.{Attributes}
+use Rattle.wire.specs.declared.Statistics.{Statistics}
+use Rattle.wire.proofs.Timestamp as time
+use Rattle.wire.proofs.Timestamp.Laws as time′
+use Rattle.wire.proofs.Attributes as attributes
+use Rattle.wire.proofs.Attributes.Laws as attributes′
+use Rattle.wire.proofs.Statistics as statistics
+use Rattle.wire.proofs.Statistics.Laws as statistics′
 use Rattle.request_reader.specs.declared.Request.{Request}
 use Rattle.request_reader.specs.declared.Request.the-variants as Q
-use Rattle.request_reader.specs.Answers.{methodOf, valuesOf}
+use Rattle.request_reader.specs.Answers.{methodOf}
 use Rattle.request_reader.proofs.Request as T
 use Rattle.request_reader.proofs.Request.Laws as T′
 use Rattle.reply_reader.specs.declared.Reply.{Reply}
 use Rattle.reply_reader.specs.declared.Reply.the-variants as R
-use Rattle.reply_reader.specs.Answers.{valuesOf as replyValues, typeOf as replyType}
+use Rattle.reply_reader.specs.Answers.{typeOf as replyType}
 use Rattle.reply_reader.proofs.Reply as U
 use Rattle.reply_reader.proofs.Reply.Laws as U′
-use Rattle.reply_rewriter.specs.Rewriting.{writtenIn}
+use Rattle.request_rewriter.specs.Rewriting.{valuesIn as requestValues}
+use Rattle.reply_rewriter.specs.Rewriting.{valuesIn as replyValues}
 
 -- ---- one field more
 
@@ -66,14 +67,14 @@ module _ {ks : List Kind} {vs : List (Value (List ℕ))} (rest : AllFit ks vs) w
   bool : {b : Bool} → AllFit (num k-bool ∷ ks) (truth b ∷ vs)
   bool {b} = more (fits-num (fits-bool b)) rest
 
-  timestamp : (t : Timestamp) {ws : List Val} → Is time.the-row t ws → AllFit (num k-u64 ∷ num k-u32 ∷ ks) (number (t .seconds) ∷ number (t .nsec) ∷ vs)
+  timestamp : (t : Timestamp) {ws : List Val} → Is time.the-row t ws → AllFit (timeKinds ++ ks) (timeValues t vs)
   timestamp t {ws} h =
       let o = struct.owed time.the-type time′.the-laws t ws h in
       more (fits-num (fits-u64 (o .0 .1))) (more (fits-num (fits-u32 (o .1 .0 .1))) rest)
 
 -- ---- a request
 
-pub request-fits : (s : List ℕ) (q : Request) (ws : List Val) → Is T.the-row q ws → AllFit (kinds (row (methodOf q) .request)) (map (shownIn s) (valuesOf q))
+pub request-fits : (s : List ℕ) (q : Request) (ws : List Val) → Is T.the-row q ws → AllFit (kinds (row (methodOf q) .request)) (requestValues s q)
 request-fits s (Q.Access path mode) ws h = let o = enum.owed T.the-type T′.the-laws (Q.Access path mode) ws h in text (i8 none (o .1 .0 .1))
 request-fits s (Q.Getattr path) ws h = text none
 request-fits s (Q.Readlink path) ws h = text none
@@ -115,7 +116,7 @@ statistics-fit b {ws} h =
 
 -- the result, and the fields behind it
 pub reply-fits : (m : List ℕ) (q : Reply) (ws : List Val) → Is U.the-row q ws → {z : ℤ} → mag z < 2 ^ hbits w32
-    → AllFit (kindsOf (plan reply (replyType q)) success) (signed z ∷ map (writtenIn m) (replyValues m q))
+    → AllFit (kindsOf (plan reply (replyType q)) success) (replyValues m z q)
 unfolding plan ofReply
 reply-fits m R.Access ws h g = i32 none g
 reply-fits m (R.Getattr a) ws h g = let o = enum.owed U.the-type U′.the-laws (R.Getattr a) ws h in i32 (attributes-fit a (o .0)) g

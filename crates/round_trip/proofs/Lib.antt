@@ -1,4 +1,5 @@
 pub mod Fitting
+pub mod Names
 pub mod Replies
 pub mod Requests
 pub mod Trips

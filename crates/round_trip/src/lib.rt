@@ -1,28 +1,24 @@
 // Readers and writers against each other, of the running functions. What was read is written again by one call: the known part, or the
 // refusal and the buffer as it was. What was written is read back with the same values.
-ghost use mathlib.Core.Bool.{true};
-ghost use mathlib.Core.List.{[], _∷_, map};
-ghost use lib.Dec.{eqb};
-ghost use lib.ListN.{length};
+ghost use mathlib.Core.List.{[], _∷_};
 ghost use Rattle.layout.specs.Table.{request as request·side, reply as reply·side, unknownResponse};
-ghost use Rattle.layout.specs.Values.{signed, run, runs};
+ghost use Rattle.layout.specs.Values.{signed, run};
 ghost use Rattle.layout.specs.Reading.{known, unknown, failure, success};
-ghost use Rattle.layout.specs.Writing.{split, sum};
-ghost use Rattle.field.specs.Values.{shownIn};
-ghost use Rattle.request_reader.specs.Answers.{answerOf as requestAnswer, typeOf as requestType, valuesOf as requestValues};
-ghost use Rattle.reply_reader.specs.Answers.{typeOf as replyType, valuesOf as replyValues};
-ghost use Rattle.reply_rewriter.specs.Rewriting.{writtenIn};
-ghost use Rattle.writer.specs.Writers.{Wrote};
-ghost use Rattle.round_trip.specs.RoundTrip.{again, Back, answerStored, readdirReply, getcredsReply};
+ghost use Rattle.message_writer.specs.Writers.{Writes};
+ghost use Rattle.request_reader.specs.Answers.{typeOf as requestType};
+ghost use Rattle.reply_reader.specs.Answers.{typeOf as replyType};
+ghost use Rattle.request_rewriter.specs.Rewriting.{valuesIn as requestValues};
+ghost use Rattle.reply_rewriter.specs.Rewriting.{valuesIn as replyValues};
+ghost use Rattle.round_trip.specs.RoundTrip.{again, RequestReturns, ReplyReturns, NamesReturn, getcredsReply};
+use message_writer::Written;
 use reply_reader::Reply;
 use reply_reader::ReplyAnswer;
 use request_reader::Request;
 use request_reader::RequestAnswer;
-use writer::Written;
 
 // The known part of the request `message` at the start of `out`; or the reader's refusal, or the writer's, and `out` as it was.
 pub fn request_again(message: &[u8], out: &mut [u8]) -> Written
-    ensures { λ r. ⌜ Wrote (again request·side (now (message .entry)) (now (out .entry))) (now (out .exit)) r ⌝ }
+    ensures { λ r. ⌜ Writes (again request·side (now (message .entry))) (out .entry) (out .exit) r ⌝ }
 {
     let answer = request_reader::read_request(message);
     match answer {
@@ -32,7 +28,11 @@ pub fn request_again(message: &[u8], out: &mut [u8]) -> Written
             message,
             out,
         ),
-        RequestAnswer::Unknown { id, kind, .. } => request_writer::write_unknown(id, kind, out),
+        RequestAnswer::Unknown {
+            id,
+            type_number,
+            ..
+        } => request_writer::write_unknown(id, type_number, out),
         RequestAnswer::Refused { number, place } => Written::Refused { number, place },
     }
 }
@@ -45,7 +45,7 @@ pub struct RequestBack {
 
 // A request of any method is written, and what was stored is read. The texts and data of `request` stand in `texts`.
 pub fn request_back(id: u32, request: Request, texts: &[u8], out: &mut [u8]) -> RequestBack
-    ensures { λ r. ⌜ Back request·side known id (requestType request) (map (shownIn (now (texts .entry))) (requestValues request)) true (now (out .entry)) (now (out .exit)) (r .written) (requestAnswer (r .answer)) ⌝ }
+    ensures { λ r. ⌜ RequestReturns known id (requestType request) (requestValues (now (texts .entry)) request) (out .entry) (out .exit) r ⌝ }
 {
     let written = request_rewriter::write_request(id, request, texts, out);
     let answer = request_reader::read_request(&out[..written.len()]);
@@ -53,17 +53,17 @@ pub fn request_back(id: u32, request: Request, texts: &[u8], out: &mut [u8]) -> 
 }
 
 // The same of a request of a type that is no method's.
-pub fn unknown_request_back(id: u32, kind: u8, out: &mut [u8]) -> RequestBack
-    ensures { λ r. ⌜ Back request·side unknown id kind [] true (now (out .entry)) (now (out .exit)) (r .written) (requestAnswer (r .answer)) ⌝ }
+pub fn unknown_request_back(id: u32, type_number: u8, out: &mut [u8]) -> RequestBack
+    ensures { λ r. ⌜ RequestReturns unknown id «type_number» [] (out .entry) (out .exit) r ⌝ }
 {
-    let written = request_writer::write_unknown(id, kind, out);
+    let written = request_writer::write_unknown(id, type_number, out);
     let answer = request_reader::read_request(&out[..written.len()]);
     RequestBack { written, answer }
 }
 
 // The known part of the reply `message` at the start of `out`; or the reader's refusal, or the writer's, and `out` as it was.
 pub fn reply_again(message: &[u8], out: &mut [u8]) -> Written
-    ensures { λ r. ⌜ Wrote (again reply·side (now (message .entry)) (now (out .entry))) (now (out .exit)) r ⌝ }
+    ensures { λ r. ⌜ Writes (again reply·side (now (message .entry))) (out .entry) (out .exit) r ⌝ }
 {
     let answer = reply_reader::read_reply(message);
     match answer {
@@ -75,13 +75,13 @@ pub fn reply_again(message: &[u8], out: &mut [u8]) -> Written
         } => reply_rewriter::write_reply(id, result, reply, message, out),
         ReplyAnswer::Failure {
             id,
-            kind,
+            type_number,
             result,
             ..
-        } => reply_writer::write_failure(id, kind, result, out),
+        } => reply_writer::write_failure(id, type_number, result, out),
         ReplyAnswer::Credentials { id, creds, .. } => reply_writer::write_getcreds(
             id,
-            field::bytes_of(message, creds),
+            wire::bytes_of(message, creds),
             out,
         ),
         ReplyAnswer::UnknownResponse { id, .. } => reply_writer::write_unknown_response(id, out),
@@ -97,7 +97,7 @@ pub struct ReplyBack {
 
 // The success of any method with a result is written, and what was stored is read. Its text, data or names stand in `message`.
 pub fn reply_back(id: u32, result: i32, reply: Reply, message: &[u8], out: &mut [u8]) -> ReplyBack
-    ensures { λ r. ⌜ Back reply·side success id (replyType reply) (signed result ∷ map (writtenIn (now (message .entry))) (replyValues (now (message .entry)) reply)) true (now (out .entry)) (now (out .exit)) (r .written) (answerStored (now (out .exit)) r) ⌝ }
+    ensures { λ r. ⌜ ReplyReturns success id (replyType reply) (replyValues (now (message .entry)) result reply) (out .entry) (out .exit) r ⌝ }
 {
     let written = reply_rewriter::write_reply(id, result, reply, message, out);
     let answer = reply_reader::read_reply(&out[..written.len()]);
@@ -112,16 +112,16 @@ pub fn readdir_back(
     lengths: &[u32],
     out: &mut [u8],
 ) -> ReplyBack
-    ensures { λ r. ⌜ Back reply·side success id readdirReply (signed result ∷ runs (split (now (lengths .entry)) (now (names .entry))) ∷ []) (eqb (sum (now (lengths .entry))) (length (now (names .entry)))) (now (out .entry)) (now (out .exit)) (r .written) (answerStored (now (out .exit)) r) ⌝ }
+    ensures { λ r. ⌜ NamesReturn id result (now (lengths .entry)) (now (names .entry)) (out .entry) (out .exit) r ⌝ }
 {
-    let written = names_writer::write_readdir(id, result, names, lengths, out);
+    let written = readdir_writer::write_readdir(id, result, names, lengths, out);
     let answer = reply_reader::read_reply(&out[..written.len()]);
     ReplyBack { written, answer }
 }
 
 // The reply that has no result.
 pub fn getcreds_back(id: u32, creds: &[u8], out: &mut [u8]) -> ReplyBack
-    ensures { λ r. ⌜ Back reply·side success id getcredsReply (run (now (creds .entry)) ∷ []) true (now (out .entry)) (now (out .exit)) (r .written) (answerStored (now (out .exit)) r) ⌝ }
+    ensures { λ r. ⌜ ReplyReturns success id getcredsReply (run (now (creds .entry)) ∷ []) (out .entry) (out .exit) r ⌝ }
 {
     let written = reply_writer::write_getcreds(id, creds, out);
     let answer = reply_reader::read_reply(&out[..written.len()]);
@@ -129,17 +129,17 @@ pub fn getcreds_back(id: u32, creds: &[u8], out: &mut [u8]) -> ReplyBack
 }
 
 // The failure of any method.
-pub fn failure_back(id: u32, kind: u8, result: i32, out: &mut [u8]) -> ReplyBack
-    ensures { λ r. ⌜ Back reply·side failure id kind (signed result ∷ []) true (now (out .entry)) (now (out .exit)) (r .written) (answerStored (now (out .exit)) r) ⌝ }
+pub fn failure_back(id: u32, type_number: u8, result: i32, out: &mut [u8]) -> ReplyBack
+    ensures { λ r. ⌜ ReplyReturns failure id «type_number» (signed result ∷ []) (out .entry) (out .exit) r ⌝ }
 {
-    let written = reply_writer::write_failure(id, kind, result, out);
+    let written = reply_writer::write_failure(id, type_number, result, out);
     let answer = reply_reader::read_reply(&out[..written.len()]);
     ReplyBack { written, answer }
 }
 
 // The unknown response.
 pub fn unknown_response_back(id: u32, out: &mut [u8]) -> ReplyBack
-    ensures { λ r. ⌜ Back reply·side unknown id unknownResponse [] true (now (out .entry)) (now (out .exit)) (r .written) (answerStored (now (out .exit)) r) ⌝ }
+    ensures { λ r. ⌜ ReplyReturns unknown id unknownResponse [] (out .entry) (out .exit) r ⌝ }
 {
     let written = reply_writer::write_unknown_response(id, out);
     let answer = reply_reader::read_reply(&out[..written.len()]);

@@ -5,7 +5,7 @@ use mathlib.Core.List.{List, [], _∷_, _++_, map}
 use Prim.Native.Nat.{ℕ, _+_, _<_, _≤_}
 use lib.ListN.{length, getD, drop, drop-of-length-le}
 use Rattle.number.specs.BigEndian.{bytesOf, overwritten, Stores}
-use Rattle.store.specs.Stored.{concat}
+use Rattle.field_writer.specs.Stored.{concat}
 use Rattle.outstanding.proofs.Lists.{from-here}
 use Rattle.shown.specs.Checksum.{withByte, checksumAfter}
 

@@ -2,7 +2,7 @@
 use Prim.Native.Nat.{ℕ, _+_, _*_, _%_}
 use mathlib.Core.List.{List, [], _∷_, _++_, map}
 use Rattle.number.specs.BigEndian.{bytesOf}
-use Rattle.store.specs.Stored.{concat}
+use Rattle.field_writer.specs.Stored.{concat}
 use Rattle.outstanding_records.specs.declared.Record.{Record}
 use Rattle.outstanding_records.specs.declared.Record.the-variants.{Free, Held}
 

@@ -19,6 +19,7 @@ pub(crate) struct Head {
     pub(crate) len: usize,
 }
 
+// The head of the next case of the input.
 pub(crate) fn read_head() -> Head {
     let mut head = [0u8; 5];
     io::read_full(STDIN_FILENO, &mut head);

@@ -8,12 +8,12 @@ mod table;
 
 ghost use mathlib.Core.Path.{_≡_};
 ghost use Rattle.shown.specs.Ends.{isPast};
+use message_writer::Written;
 use names::Step;
-use names_writer::Collected;
+use readdir_writer::Collected;
 use reply_reader::Reply;
 use reply_reader::ReplyAnswer;
 use request_reader::RequestAnswer;
-use writer::Written;
 
 // The ops of a case.
 const SHOWN: u8 = b's';
@@ -193,7 +193,7 @@ fn show_collected(m: &[u8], reply: Reply, run: &mut [u8], lengths: &mut [u32]) {
     };
     cases::fill(run);
     cases::fill_lengths(lengths);
-    let collected = names_writer::collect_names(m, count, run, lengths);
+    let collected = readdir_writer::collect_names(m, count, run, lengths);
     print::put(b" ");
     match collected {
         Collected::Copied { count, len } => {

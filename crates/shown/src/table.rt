@@ -31,6 +31,7 @@ const RECORD_LEN: usize = 6;
 
 const RECORDS_PLACE: usize = 6;
 
+// The answer to a case of calls on a table.
 pub(crate) fn answer(body: &[u8]) {
     let id = cases::word_at(body, ID_PLACE);
     let type_number = cases::byte_at(body, TYPE_PLACE);

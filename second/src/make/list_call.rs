@@ -10,12 +10,11 @@ use crate::make::tables::{
     enter, failure, first_held, fitting, fitting_of, free, free_with, held, held_without, id_at,
     kind_at, success, unknown_response, OTHER_ID, UNKNOWN_TYPES,
 };
-use crate::methods::{GETCREDS, METHODS, REPLY_OFFSET};
+use crate::methods::{ACCESS, GETCREDS, METHODS, REPLY_OFFSET};
 use crate::outstanding::{Record, RECORDS, TYPE_LIMIT};
 
 const ID: u32 = 0x8182_8384;
 
-const ACCESS: u8 = 0x01;
 const GETATTR: u8 = 0x02;
 
 pub fn add(out: &mut Vec<Case>) {

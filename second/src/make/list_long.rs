@@ -3,7 +3,7 @@
 use crate::make::case::{again, front, listing, read, Case, Filled, Side};
 use crate::make::put::size;
 use crate::make::styles::{puts, Style};
-use crate::methods::{Method, GETCREDS, METHODS, READ, READDIR};
+use crate::methods::{Method, GETCREDS, METHODS, READ, READDIR, REPLY_OFFSET};
 use crate::store::{header, push};
 
 const WHOLES: [usize; 3] = [65_535, 65_536, 65_537];
@@ -44,7 +44,7 @@ fn add_request(out: &mut Vec<Case>, method: &Method, whole: usize) {
 fn add_replies(out: &mut Vec<Case>, whole: usize) {
     let text = (whole - 13) as u64;
     for (kind, result, length) in
-        [(0x83, 0, text), (READ + 0x80, text, text), (READ + 0x80, 0, text)]
+        [(0x83, 0, text), (READ + REPLY_OFFSET, text, text), (READ + REPLY_OFFSET, 0, text)]
     {
         let mut prefix = header(5, kind);
         push(&mut prefix, 4, result);
@@ -54,7 +54,7 @@ fn add_replies(out: &mut Vec<Case>, whole: usize) {
         out.push(again(Side::Reply, 65_536, &message));
         out.push(again(Side::Reply, whole - 1, &message));
     }
-    let mut creds = header(5, GETCREDS + 0x80);
+    let mut creds = header(5, GETCREDS + REPLY_OFFSET);
     push(&mut creds, 4, (whole - 9) as u64);
     out.push(read(Side::Reply, &Filled::padded(&creds, whole, b'c')));
     out.push(again(Side::Reply, 70_000, &Filled::padded(&creds, whole, b'c')));
@@ -63,7 +63,7 @@ fn add_replies(out: &mut Vec<Case>, whole: usize) {
 /// One long name behind two short ones; a long last name with one byte short.
 fn add_names(out: &mut Vec<Case>, whole: usize) {
     for missing in [0, 1] {
-        let mut prefix = header(6, READDIR + 0x80);
+        let mut prefix = header(6, READDIR + REPLY_OFFSET);
         push(&mut prefix, 4, 0);
         push(&mut prefix, 4, 3);
         prefix.extend_from_slice(&[0, 0, 0, 1, b'n', 0, 0, 0, 0]);

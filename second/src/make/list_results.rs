@@ -3,7 +3,7 @@
 use crate::make::case::{again, read, Case, Filled, Side};
 use crate::make::put::reply_draft;
 use crate::make::styles::{puts, Style};
-use crate::methods::{Method, METHODS, READ};
+use crate::methods::{Method, METHODS, READ, REPLY_OFFSET};
 use crate::store::{header, push, push_signed};
 
 const RESULTS: [i32; 8] = [0, 1, 7, 256, i32::MAX, -1, -22, i32::MIN];
@@ -41,7 +41,7 @@ fn add_result(out: &mut Vec<Case>, method: &Method, result: i32) {
 }
 
 fn read_reply(result: i32, length: u32) -> Vec<u8> {
-    let mut bytes = header(9, READ + 0x80);
+    let mut bytes = header(9, READ + REPLY_OFFSET);
     push_signed(&mut bytes, 4, result);
     push(&mut bytes, 4, u64::from(length));
     bytes

@@ -8,8 +8,9 @@ use Rattle.agreement.proofs.same_reply_parts.Tie as tie
 
 returns : tie.Need-returns
 returns c =
+    let early = c .before .before .before .before .before .before .before in
     ap₂ _&&_
-    (c .before .before .before .before .before .before .same .ensures ∙ ap₂ eqBytes (c .before .before .before .before .before .before .before .before .resolved .ensures .bytes) (c .before .before .before .before .before .before .before .resolved2 .ensures .bytes))
+    (c .before .before .before .before .before .before .same .ensures ∙ ap₂ eqBytes (early .before .resolved .ensures .bytes) (early .resolved2 .ensures .bytes))
     (ap₂ _&&_
     (c .before .before .before .same2 .ensures ∙ ap₂ eqBytes (c .before .before .before .before .before .«data» .ensures .bytes) (c .before .before .before .before .data2 .ensures .bytes))
     (c .same3 .ensures ∙ ap₂ eqBytes (c .before .before .creds .ensures .bytes) (c .before .creds2 .ensures .bytes)))

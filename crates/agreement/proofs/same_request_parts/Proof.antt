@@ -8,14 +8,16 @@ use Rattle.agreement.proofs.same_request_parts.Tie as tie
 
 returns : tie.Need-returns
 returns c =
+    let early = c .before .before .before .before .before .before .before in
+    let earlier = early .before .before .before .before .before .before .before in
     ap₂ _&&_
-    (c .before .before .before .before .before .before .before .before .before .before .before .before .before .before .before .same .ensures ∙ ap₂ eqBytes (c .before .before .before .before .before .before .before .before .before .before .before .before .before .before .before .before .before .path .ensures .bytes) (c .before .before .before .before .before .before .before .before .before .before .before .before .before .before .before .before .path2 .ensures .bytes))
+    (earlier .before .same .ensures ∙ ap₂ eqBytes (earlier .before .before .before .path .ensures .bytes) (earlier .before .before .path2 .ensures .bytes))
     (ap₂ _&&_
-    (c .before .before .before .before .before .before .before .before .before .before .before .before .same2 .ensures ∙ ap₂ eqBytes (c .before .before .before .before .before .before .before .before .before .before .before .before .before .before .target .ensures .bytes) (c .before .before .before .before .before .before .before .before .before .before .before .before .before .target2 .ensures .bytes))
+    (early .before .before .before .before .before .same2 .ensures ∙ ap₂ eqBytes (earlier .target .ensures .bytes) (early .before .before .before .before .before .before .target2 .ensures .bytes))
     (ap₂ _&&_
-    (c .before .before .before .before .before .before .before .before .before .same3 .ensures ∙ ap₂ eqBytes (c .before .before .before .before .before .before .before .before .before .before .before .linkpath .ensures .bytes) (c .before .before .before .before .before .before .before .before .before .before .linkpath2 .ensures .bytes))
+    (early .before .before .same3 .ensures ∙ ap₂ eqBytes (early .before .before .before .before .linkpath .ensures .bytes) (early .before .before .before .linkpath2 .ensures .bytes))
     (ap₂ _&&_
-    (c .before .before .before .before .before .before .same4 .ensures ∙ ap₂ eqBytes (c .before .before .before .before .before .before .before .before .old-path .ensures .bytes) (c .before .before .before .before .before .before .before .old-path2 .ensures .bytes))
+    (c .before .before .before .before .before .before .same4 .ensures ∙ ap₂ eqBytes (early .before .old-path .ensures .bytes) (early .old-path2 .ensures .bytes))
     (ap₂ _&&_
     (c .before .before .before .same5 .ensures ∙ ap₂ eqBytes (c .before .before .before .before .before .new-path .ensures .bytes) (c .before .before .before .before .new-path2 .ensures .bytes))
     (c .same6 .ensures ∙ ap₂ eqBytes (c .before .before .«data» .ensures .bytes) (c .before .data2 .ensures .bytes))))))

@@ -7,7 +7,7 @@ use lib.ListN.{length}
 use borrow.Author.Needs.{needs}
 use Rattle.layout.specs.Table.{reply}
 use Rattle.layout.specs.Parts.{partNamed}
-use Rattle.field.specs.Cursors.{shown}
+use Rattle.wire.specs.Runs.{shown}
 use Rattle.reply_reader.specs.declared.ReplyAnswer.{ReplyAnswer}
 use Rattle.reply_reader.specs.Answers.{answerOf}
 use Rattle.data_claim.proofs.Claims.{carries, its-data}

@@ -7,7 +7,7 @@ use mir.Syntax.{w32}
 use mir.ValLaws.{toZ-ofZ}
 use borrow.Author.Needs.{needs}
 use Rattle.number.proofs.TwosComplement.{machine-fits}
-use Rattle.writer.proofs.RoundTrip.{length-inside}
+use Rattle.message_writer.proofs.Finished.{length-inside}
 use Rattle.data_claim.specs.Claims.{Carries}
 use Rattle.data_claim.proofs.Claims.{written-claims}
 use Rattle.data_claim.proofs.write_then_read.Statement.{statement}

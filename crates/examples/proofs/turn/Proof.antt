@@ -11,7 +11,9 @@ returns-2 : tie.Need-returns-2
 returns-2 c = fronted-rest _ _ (c .enum-told .given .1) (c .before .before .before .before .front .ensures)
 
 returns-3 : tie.Need-returns-3
-returns-3 c = kept-on (fronted-rest _ _ (c .before .before .before .before .enum-told2 .given .1) (c .before .before .before .before .before .before .before .before .front .ensures)) (c .before .before .serve .ensures)
+returns-3 c =
+    let early = c .before .before .before .before .before .before .before .before in
+    kept-on (fronted-rest _ _ (c .before .before .before .before .enum-told2 .given .1) (early .front .ensures)) (c .before .before .serve .ensures)
 
 pub turn-spec : {M : Type 1} → statement M
 turn-spec =

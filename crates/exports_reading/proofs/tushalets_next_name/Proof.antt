@@ -12,5 +12,5 @@ tushalets-next-name-spec =
     tie.close
     (tie.spec
     (λ c κs. search needs) (λ c. search needs) (λ c. search needs)
-    (λ c. ap (λ (s : Step). nameOf (stepOf s)) (sym (c .before .step .given .1)) ∙ ap nameOf (c .before .before .before .next .ensures))
-    (λ c. ap (λ (s : Step). nameOf (stepOf s)) (sym (c .before .step2 .given .1)) ∙ ap nameOf (c .before .before .before .next .ensures)))
+    (λ c. ap (λ (s : Step). nameOf (stepOf s)) (sym (c .before .step .given .1)) ∙ ap nameOf (c .before .before .before .step-at .ensures))
+    (λ c. ap (λ (s : Step). nameOf (stepOf s)) (sym (c .before .step2 .given .1)) ∙ ap nameOf (c .before .before .before .step-at .ensures)))

@@ -8,7 +8,8 @@ use Rattle.exports_replies.proofs.tushalets_write_reply.Tie as tie
 
 returns : tie.Need-returns
 returns c =
-    let a = c .before .before .before .before .before .before .before .before in
+    let early = c .before .before .before .before .before .before .before .before in
+    let a = early in
     tells-host (c .of .ensures) (rw (toZ-ofZ w32 (a .args .result) (a .fits .result)) at (c .before .before .before .write-success .ensures))
 
 pub tushalets-write-reply-spec : {M : Type 1} → statement M

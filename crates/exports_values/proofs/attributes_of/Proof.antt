@@ -11,4 +11,4 @@ attributes-of-spec =
     (λ c κs. search needs) (λ c. search needs) (λ c. search needs) (λ c κs. search needs) (λ c. search needs)
     (λ c. search needs) (λ c. search needs) (λ c κs. search needs) (λ c. search needs) (λ c κs. search needs)
     (λ c. search needs) (λ c κs. search needs) (λ c. search needs) (λ c. search needs) (λ c. search needs)
-    (λ c. rw (c .before .before .before .before .before .before .before .before .before .before .before .before .before .before .before .before .before .timestamp .ensures, c .before .before .before .before .before .before .before .before .before .before .before .before .before .before .timestamp2 .ensures, c .before .before .before .before .before .before .before .before .before .before .before .timestamp3 .ensures, c .before .before .before .before .before .before .before .low-u32 .ensures, c .before .before .before .before .before .low-u322 .ensures, c .before .before .before .low-u323 .ensures)))
+    (λ c. let early = c .before .before .before .before .before .before .before in let earlier = early .before .before .before .before .before .before .before in rw (earlier .before .before .before .timestamp .ensures, earlier .timestamp2 .ensures, early .before .before .before .before .timestamp3 .ensures, early .low-u32 .ensures, c .before .before .before .before .before .low-u322 .ensures, c .before .before .before .low-u323 .ensures)))

@@ -13,7 +13,9 @@ returns : tie.Need-returns
 returns c = known-handed-on _ _ (sym (c .before .before .read-request .ensures) ∙ ap answerOf (c .enum-told .given .1)) refl
 
 returns-2 : tie.Need-returns-2
-returns-2 c = unknown-answered _ _ (sym (c .before .before .before .before .before .before .before .read-request .ensures) ∙ ap answerOf (c .before .before .before .before .before .answer .given .1)) (c .before .before .answer-unknown .ensures)
+returns-2 c =
+    let early = c .before .before .before .before .before .before .before in
+    unknown-answered _ _ (sym (early .read-request .ensures) ∙ ap answerOf (c .before .before .before .before .before .answer .given .1)) (c .before .before .answer-unknown .ensures)
 
 pub front-spec : {M : Type 1} → statement M
 front-spec = tie.close (tie.spec (λ c κs. search needs) (λ c. search needs) (λ c. search needs) (λ c κs. search needs) (λ c. search needs) refused returns (λ c. search needs) returns-2 (λ c. search needs) (λ c. search needs))

@@ -1,8 +1,8 @@
 -- `front::told` meets its contract. Assumes nothing.
 use mathlib.Core.Path.{sym, ap}
 use borrow.Author.Needs.{needs}
-use Rattle.writer.specs.Writers.{toldOf}
-use Rattle.writer.specs.declared.Written.{Written}
+use Rattle.message_writer.specs.Writers.{toldOf}
+use Rattle.message_writer.specs.declared.Written.{Written}
 use Rattle.front.specs.Acts.{actTold}
 use Rattle.front.proofs.told.Statement.{statement}
 use Rattle.front.proofs.told.Tie as tie

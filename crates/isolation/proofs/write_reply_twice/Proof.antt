@@ -9,7 +9,8 @@ use Rattle.isolation.proofs.write_reply_twice.Tie as tie
 
 returns : tie.Need-returns
 returns c =
-    let start = c .before .before .before .before .before .before .before .before .before .before .before in
+    let early = c .before .before .before .before .before .before .before .before .before .before .before in
+    let start = early in
     let result = toZ-ofZ w32 (start .args .result) (start .fits .result) in
     wrote-apart (write-isolated _ _ _ _ _ _) (rw result at (c .before .before .before .before .before .before .write-reply .ensures)) (rw result at (c .before .before .write-reply2 .ensures))
 

@@ -5,8 +5,8 @@ use Prim.Native.Nat.{ℕ}
 use native.Mathlib.Omega.{arith}
 use lib.ListN.{length-append}
 use borrow.Author.Needs.{needs}
-use Rattle.store.specs.Stored.{none, more}
-use Rattle.store.proofs.Storing.{whole-put}
+use Rattle.field_writer.specs.Stored.{none, more}
+use Rattle.field_writer.proofs.Storing.{whole-put}
 use Rattle.lines.specs.Lines.{decimal, entry}
 use Rattle.lines.proofs.Adding.{begins-length}
 use Rattle.lines.proofs.Entries.{length-entry}
@@ -15,15 +15,17 @@ use Rattle.lines.proofs.put_entries.Tie as tie
 
 returns : tie.Need-returns
 returns c =
-    let a = c .before .before .before .before .before .before .before .before .before .before .before .before .before .before .before .before .before .before .args in
-    let digits-a = c .before .before .before .before .before .before .before .before .before .before .before .before .before .digits-of .ensures .0 in
-    let digits-b = c .before .before .before .before .before .before .before .before .before .before .before .digits-of2 .ensures .0 in
+    let early = c .before .before .before .before .before .before .before in
+    let earlier = early .before .before .before .before .before .before .before .before .before .before .before in
+    let a = earlier .args in
+    let digits-a = early .before .before .before .before .before .before .digits-of .ensures .0 in
+    let digits-b = early .before .before .before .before .digits-of2 .ensures .0 in
     let one = entry (a .first .now) (decimal (a .a)) (a .between) in
     let two = entry (a .second .now) (decimal (a .b)) 10 in
     whole-put (one ++ two) (ap (λ (e : List ℕ). one ++ e) (append-nil two))
     (omega (arith, length-append one two, length-entry (a .first .now) (decimal (a .a)) (a .between), length-entry (a .second .now) (decimal (a .b)) 10, begins-length digits-a, begins-length digits-b))
-    (c .before .before .before .before .before .before .before .before .before .before .room-for-two .ensures)
-    (more (rw (digits-a .is) at (c .before .before .before .before .before .before .before .put-entry .ensures))
+    (early .before .before .before .room-for-two .ensures)
+    (more (rw (digits-a .is) at (early .put-entry .ensures))
     (more (rw (digits-b .is) at (c .before .before .put-entry2 .ensures))
     none))
 

@@ -3,8 +3,8 @@ use mathlib.Core.Path.{refl}
 use native.Mathlib.Omega.{arith}
 use lib.Dec.{lit<}
 use borrow.Author.Needs.{needs}
-use Rattle.store.specs.Stored.{none, more}
-use Rattle.store.proofs.Storing.{whole-put}
+use Rattle.field_writer.specs.Stored.{none, more}
+use Rattle.field_writer.proofs.Storing.{whole-put}
 use Rattle.lines.specs.Lines.{entry}
 use Rattle.lines.proofs.Entries.{length-entry, one-byte}
 use Rattle.lines.proofs.put_entry.Statement.{statement}
@@ -12,14 +12,16 @@ use Rattle.lines.proofs.put_entry.Tie as tie
 
 returns : tie.Need-returns
 returns c =
-    let s = c .before .before .before .before .before .before .before .before .before .before .before .before .before .before .before .before .before .before .before .before in
+    let early = c .before .before .before .before .before .before .before .before .before .before in
+    let earlier = early .before .before .before .before .before .before .before .before .before .before in
+    let s = earlier in
     let name = s .args .name .now in
     let value = s .args .value .now in
     let end = s .args .end in
     whole-put (entry name value end) refl (omega (arith, length-entry name value end))
-    (c .before .before .before .before .before .before .before .before .before .before .before .before .before .before .before .before .room-for-two .ensures)
-    (more (c .before .before .before .before .before .before .before .before .before .before .before .before .before .before .put-all .ensures)
-    (more (rw (one-byte 32 (lit< tt)) at (c .before .before .before .before .before .before .before .before .before .before .put-u8 .ensures))
+    (early .before .before .before .before .before .before .room-for-two .ensures)
+    (more (early .before .before .before .before .put-all .ensures)
+    (more (rw (one-byte 32 (lit< tt)) at (early .put-u8 .ensures))
     (more (c .before .before .before .before .before .before .put-all2 .ensures)
     (more (rw (one-byte end (s .fits .end .fits)) at (c .before .before .put-u82 .ensures))
     none))))

@@ -10,7 +10,8 @@ use Rattle.lines.proofs.put_integer.Tie as tie
 
 returns : tie.Need-returns
 returns c =
-    let s = c .before .before .before .before .before .before .before in
+    let early = c .before .before .before .before .before .before .before in
+    let s = early in
     let e = toZ-ofZ w32 (s .args .x) (s .fits .x) in
     let b = c .before .before .before .before .before .bits-of-i32 .ensures in
     let t = c .before .before .before .before .if1 .taken in
@@ -18,7 +19,8 @@ returns c =
 
 returns-2 : tie.Need-returns-2
 returns-2 c =
-    let s = c .before .before .before .before .before .before .before in
+    let early = c .before .before .before .before .before .before .before in
+    let s = early in
     let e = toZ-ofZ w32 (s .args .x) (s .fits .x) in
     let b = c .before .before .before .before .before .bits-of-i32 .ensures in
     let t = c .before .before .before .before .if1 .left in

@@ -4,8 +4,8 @@ use mathlib.Core.List.{List, _∷_, append-nil}
 use Prim.Native.Nat.{ℕ}
 use native.Mathlib.Omega.{arith}
 use borrow.Author.Needs.{needs}
-use Rattle.store.specs.Stored.{none, more}
-use Rattle.store.proofs.Storing.{whole-put}
+use Rattle.field_writer.specs.Stored.{none, more}
+use Rattle.field_writer.proofs.Storing.{whole-put}
 use Rattle.lines.specs.Lines.{decimal}
 use Rattle.lines.proofs.Adding.{begins-length}
 use Rattle.lines.proofs.put_negative.Statement.{statement}
@@ -13,11 +13,13 @@ use Rattle.lines.proofs.put_negative.Tie as tie
 
 returns : tie.Need-returns
 returns c =
-    let digits = c .before .before .before .before .before .before .before .before .before .before .before .digits-of .ensures .0 in
-    let magnitude = c .before .before .before .before .before .before .before .before .before .before .before .before .before .before .args .magnitude in
+    let early = c .before .before .before .before .before .before .before in
+    let earlier = early .before .before .before .before .before .before .before in
+    let digits = early .before .before .before .before .digits-of .ensures .0 in
+    let magnitude = earlier .args .magnitude in
     whole-put _ (ap (λ (e : List ℕ). 45 ∷ e) (append-nil (decimal magnitude))) (omega (arith, begins-length digits))
-    (c .before .before .before .before .before .before .before .before .before .before .room .ensures)
-    (more (c .before .before .before .before .before .before .before .put-all .ensures)
+    (early .before .before .before .room .ensures)
+    (more (early .put-all .ensures)
     (more (rw (digits .is) at (c .before .before .put-all2 .ensures))
     none))
 

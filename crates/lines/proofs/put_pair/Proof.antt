@@ -7,7 +7,8 @@ use Rattle.lines.proofs.put_pair.Tie as tie
 
 returns : tie.Need-returns
 returns c =
-    let a = c .before .before .before .before .before .before .before .args in
+    let early = c .before .before .before .before .before .before .before in
+    let a = early .args in
     rw (← (entry-then (a .first .now) (decimal (a .a)) (entry (a .second .now) (decimal (a .b)) 10) 32)) (c .before .before .put-entries .ensures)
 
 pub put-pair-spec : {M : Type 1} → statement M

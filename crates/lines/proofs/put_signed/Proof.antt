@@ -12,12 +12,14 @@ array-share-prefix-value c =
 
 slice-aggregate-put-entry : tie.Need-slice-aggregate-put-entry
 slice-aggregate-put-entry c =
-    let s = c .before .before .before .before .before .before .before in
+    let early = c .before .before .before .before .before .before .before in
+    let s = early in
     integer-begins (s .args .x) (s .fits .x) (lit≤ tt) (c .before .before .before .put-integer .ensures) .counts .1
 
 returns : tie.Need-returns
 returns c =
-    let s = c .before .before .before .before .before .before .before .before .before .before in
+    let early = c .before .before .before .before .before .before .before .before .before .before in
+    let s = early in
     rw (integer-begins (s .args .x) (s .fits .x) (lit≤ tt) (c .before .before .before .before .before .before .put-integer .ensures) .is) at (c .before .before .put-entry .ensures)
 
 pub put-signed-spec : {M : Type 1} → statement M

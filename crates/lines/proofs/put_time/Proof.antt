@@ -7,7 +7,8 @@ use Rattle.lines.proofs.put_time.Tie as tie
 
 returns : tie.Need-returns
 returns c =
-    let a = c .before .before .before .before .before .before .before .before .args in
+    let early = c .before .before .before .before .before .before .before .before in
+    let a = early .args in
     rw (append-nil (entry (a .nsec .now) (decimal (a .time .nsec)) 10)) (c .before .before .put-entries .ensures)
 
 pub put-time-spec : {M : Type 1} → statement M

@@ -4,7 +4,7 @@ use Rattle.names.proofs.next_name.Statement.{statement}
 use Rattle.names.proofs.next_name.Tie as tie
 
 returns : tie.Need-returns
-returns c = rw (← c .before .next .ensures) (c .name .ensures)
+returns c = rw (← c .before .step-at .ensures) (c .name .ensures)
 
 pub next-name-spec : {M : Type 1} → statement M
 next-name-spec = tie.close (tie.spec (λ c κs. search needs) (λ c κs. search needs) returns)

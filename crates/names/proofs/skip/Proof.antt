@@ -16,12 +16,12 @@ abbrev μ-loop : tie.MeasureT-loop
 returns : tie.Need-returns Inv-loop μ-loop
 returns c =
     let turn = c .before .before .before .before .before in
-    skip-end (turn .loop .left) (record { is = ap stepOf (sym (c .before .step2 .given .1)) ∙ c .before .before .before .next .ensures }) ∙ turn .loop .inv
+    skip-end (turn .loop .left) (record { is = ap stepOf (sym (c .before .step2 .given .1)) ∙ c .before .before .before .step-at .ensures }) ∙ turn .loop .inv
 
 loop-again : tie.Need-loop-again Inv-loop μ-loop
 loop-again c =
     let turn = c .before .before .before .before .before in
-    skip-name (turn .loop .left) (omega arith) (record { is = ap stepOf (sym (c .before .step .given .1)) ∙ c .before .before .before .next .ensures }) ∙ turn .loop .inv
+    skip-name (turn .loop .left) (omega arith) (record { is = ap stepOf (sym (c .before .step .given .1)) ∙ c .before .before .before .step-at .ensures }) ∙ turn .loop .inv
 
 returns-2 : tie.Need-returns-2 Inv-loop μ-loop
 returns-2 c = skip-none _ _ (c .before .loop .left) (omega arith) ∙ c .before .loop .inv

@@ -36,7 +36,7 @@ use denote.Triple.Walked.{says, Stays, stay-none, stay-none-slice, walkOf, goes-
 use denote.Exit.{yes}
 use denote.Triple.Clauses.{ensured, lasts}
 use Rattle.layout.specs.Values.{Part}
-use Rattle.field.specs.Cursors.{Shows}
+use Rattle.wire.specs.Runs.{Shows}
 use Rattle.names.specs.Positions.{nameOf, nthName}
 use Rattle.names.proofs.Skipping as law
 use Rattle.names_iterator.specs.declared.Iter.{Iter}

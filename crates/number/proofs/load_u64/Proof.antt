@@ -9,7 +9,8 @@ use Rattle.number.proofs.load_u64.Tie as tie
 returns : tie.Need-returns
 unfolding be
 returns c =
-    let b = c .before .before .before .before .before .before .before .before .before .before in
+    let early = c .before .before .before .before .before .before .before .before .before .before in
+    let b = early in
     c .join8 .ensures ∙ ap be (loaded 7 (b .args .at) (b .args .s .now) (b .pre))
 
 pub load-u64-spec : {M : Type 1} → statement M

@@ -3,7 +3,7 @@ use mathlib.Core.Path.{sym, ap, _∙_}
 use borrow.Author.Needs.{needs}
 use Rattle.layout.specs.Table.{reply}
 use Rattle.layout.specs.Reading.{read}
-use Rattle.outstanding.specs.Calls.{Outcome, Arrival, look}
+use Rattle.outstanding.specs.Calls.{CallOutcome, Arrival, look}
 use Rattle.outstanding_words.specs.Words.{records}
 use Rattle.exports.specs.Shown.{readingOf}
 use Rattle.exports.specs.declared.TushaletsReading.{TushaletsReading}
@@ -25,7 +25,7 @@ returns c same sound =
     let first = one .tushalets-look .ensures ∙ ap (λ i. lookedOf (look (records (a .first .now)) i)) id in
     let second = two .tushalets-look2 .ensures ∙ ap (λ i. lookedOf (look (records (a .second .now)) i)) id in
     three .tushalets-arrive .ensures .0
-    ∙ ap (λ (o : Outcome Arrival). readingOf (shownOf (o .told))) (arrivals-alike (records (a .first .now)) (records (a .second .now)) x (sym first ∙ same ∙ second) (sym (ap (λ k. k .number) first) ∙ sound))
+    ∙ ap (λ (o : CallOutcome Arrival). readingOf (shownOf (o .told))) (arrivals-alike (records (a .first .now)) (records (a .second .now)) x (sym first ∙ same ∙ second) (sym (ap (λ k. k .number) first) ∙ sound))
     ∙ sym (four .tushalets-arrive2 .ensures .0)
 
 pub arrive-alike-spec : {M : Type 1} → statement M

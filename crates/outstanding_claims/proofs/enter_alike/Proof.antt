@@ -1,7 +1,7 @@
 -- `outstanding_claims::enter_alike` meets its contract. Assumes nothing.
 use mathlib.Core.Path.{sym, ap, _∙_}
 use borrow.Author.Needs.{needs}
-use Rattle.outstanding.specs.Calls.{Outcome, Told}
+use Rattle.outstanding.specs.Calls.{CallOutcome, Told}
 use Rattle.outstanding_words.specs.Words.{records}
 use Rattle.exports_outstanding.specs.Shown.{numberOf}
 use Rattle.outstanding_claims.proofs.Together.{entries-alike}
@@ -18,7 +18,7 @@ returns c same sound =
     let first = one .tushalets-look .ensures in
     let second = two .tushalets-look2 .ensures in
     three .tushalets-enter .ensures .0
-    ∙ ap (λ (o : Outcome Told). numberOf (o .told)) (entries-alike (records (a .first .now)) (records (a .second .now)) (a .id) (a .type-number) (sym first ∙ same ∙ second) (sym (ap (λ r. r .number) first) ∙ sound))
+    ∙ ap (λ (o : CallOutcome Told). numberOf (o .told)) (entries-alike (records (a .first .now)) (records (a .second .now)) (a .id) (a .type-number) (sym first ∙ same ∙ second) (sym (ap (λ r. r .number) first) ∙ sound))
     ∙ sym (four .tushalets-enter2 .ensures .0)
 
 pub enter-alike-spec : {M : Type 1} → statement M

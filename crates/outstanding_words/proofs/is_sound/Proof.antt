@@ -82,5 +82,5 @@ is-sound-spec =
     Inv-loop2 μ-loop2 Inv-loop μ-loop returns (λ c. (c .if1 .left, omega arith, refl)) (λ c. search needs) (λ c. search needs) (λ c. search needs) (λ c κs. search needs)
     (λ c. omega (arith, c .before .before .before .loop-test .taken, c .before .before .before .before .loop .inv .0)) loop-again (λ c κs. search needs) returns-2
     (λ c. (omega (arith, c .before .before .before .before .before .loop-test .taken, c .before .before .before .before .before .before .loop .inv .0), refl)) (λ c. search needs) (λ c. search needs) (λ c κs. search needs) (λ c. search needs)
-    (λ c. omega (arith, c .before .before .loop2-test .taken, c .before .before .before .before .before .before .before .before .before .before .loop .inv .0)) loop2-again returns-3
-    (λ c. omega (arith, c .before .before .before .before .before .before .before .before .loop-test .taken, c .before .before .before .before .before .before .before .before .before .loop .inv .0)) loop-again-2 returns-4)
+    (λ c. let early = c .before .before .before .before .before .before .before .before .before .before in omega (arith, c .before .before .loop2-test .taken, early .loop .inv .0)) loop2-again returns-3
+    (λ c. let early = c .before .before .before .before .before .before .before .before in omega (arith, early .loop-test .taken, early .before .loop .inv .0)) loop-again-2 returns-4)

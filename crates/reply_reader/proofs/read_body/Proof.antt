@@ -17,10 +17,10 @@ unfolding answerAt
 returns-2 c = rw (c .before .if2 .taken) (c .read-getcreds .ensures)
 
 returns-3 : tie.Need-returns-3
-returns-3 c = let a = c .before .before .before .before .args in unexpected-low (a .m .now) (a .id) (a .kind) (omega arith)
+returns-3 c = let a = c .before .before .before .before .args in unexpected-low (a .m .now) (a .id) (a .type-number) (omega arith)
 
 returns-4 : tie.Need-returns-4
-returns-4 c = let a = c .before .before .before .before .before .args in unexpected-high (a .m .now) (a .id) (a .kind) (omega arith)
+returns-4 c = let a = c .before .before .before .before .before .args in unexpected-high (a .m .now) (a .id) (a .type-number) (omega arith)
 
 returns-5 : tie.Need-returns-5
 unfolding answerAt

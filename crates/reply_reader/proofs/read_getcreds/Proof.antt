@@ -4,7 +4,7 @@ use borrow.Author.Needs.{needs}
 use borrow.Author.Tests.{eq-eqb, ne-eqb}
 use Rattle.method.specs.Methods.{ofReply}
 use Rattle.layout.specs.Table.{plan}
-use Rattle.field.specs.Cursors.{none, more}
+use Rattle.field_reader.specs.Cursors.{none, more}
 use Rattle.reply_reader.proofs.Answered.{answered-plain}
 use Rattle.reply_reader.proofs.read_getcreds.Statement.{statement}
 use Rattle.reply_reader.proofs.read_getcreds.Tie as tie

@@ -14,7 +14,7 @@ use Rattle.layout.specs.Values.{Part, Value}
 use Rattle.layout.specs.Reading.{valueOf}
 use Rattle.layout.proofs.ReplyTypes.{Led, led-type}
 use Rattle.reply_reader.specs.Answers.{answerAt, successAt}
-use Rattle.field.proofs.Cursors.{number-behind}
+use Rattle.field_reader.proofs.Cursors.{number-behind}
 use Rattle.reply_reader.proofs.Answered.{zero-or-more, small-result, leads-on, result-refused, result-failure}
 use Rattle.reply_reader.proofs.read_result.Statement.{statement}
 use Rattle.reply_reader.proofs.read_result.Tie as tie
@@ -27,26 +27,26 @@ fits : (s : tie.After-i32-at) → SFits w32 (result s)
 fits s = search needs
 
 leads : (s : tie.After-i32-at) → let a = s .before .before .args in
-    successAt (a .m .now) (s .i32-at .result .next) (a .id) (a .kind) (result s) ≡ answerAt (a .m .now) (a .c) (a .id) (a .kind)
+    successAt (a .m .now) (s .i32-at .result .next) (a .id) (a .type-number) (result s) ≡ answerAt (a .m .now) (a .c) (a .id) (a .type-number)
 leads s =
     let b = s .before .before in
-    let l = led-type (b .args .kind) (b .pre .0) (b .pre .1) in
-    leads-on (l .count) (l .kinds) (s .i32-at .ensures) (b .args .id) (b .args .kind) (l .is)
+    let l = led-type (b .args .type-number) (b .pre .0) in
+    leads-on (l .count) (l .kinds) (s .i32-at .ensures) (b .args .id) (b .args .type-number) (l .is)
 
 returns : tie.Need-returns
 returns c =
     let s = c .before .before .before in
     let a = s .before .before .args in
-    result-refused (a .m .now) (s .i32-at .result .next) (result s) (a .id) (a .kind) (c .if1 .taken) ∙ leads s
+    result-refused (a .m .now) (s .i32-at .result .next) (result s) (a .id) (a .type-number) (c .if1 .taken) ∙ leads s
 
 returns-2 : tie.Need-returns-2
 returns-2 c =
     let s = c .before .before .before .before in
     let b = s .before .before in
-    let l = led-type (b .args .kind) (b .pre .0) (b .pre .1) in
+    let l = led-type (b .args .type-number) (b .pre .0) in
     let below : ltZ (result s) (pos 0) ≡ true = rw (toZ-ofZ w32 (result s) (fits s)) at (c .if2 .taken) in
     rw (toZ-ofZ w32 (result s) (fits s))
-    (result-failure (b .args .m .now) (s .i32-at .result .next) (result s) (b .args .id) (b .args .kind) (l .is) (c .before .if1 .left) below ∙ leads s)
+    (result-failure (b .args .m .now) (s .i32-at .result .next) (result s) (b .args .id) (b .args .type-number) (l .is) (c .before .if1 .left) below ∙ leads s)
 
 not-below : (c : tie.Else2) → ltZ (result (c .before .before .before .before)) (pos 0) ≡ false
 not-below c = let s = c .before .before .before .before in rw (toZ-ofZ w32 (result s) (fits s)) at (c .if2 .left)
@@ -59,14 +59,14 @@ read-success-requires c κs =
     let s = c .before .before .before .before in
     let b = s .before .before in
     let place = number-behind {A = Value Part} (valueOf i32) 4 (s .i32-at .ensures) (c .before .if1 .left) in
-    (b .pre .0, b .pre .1, rw (toZ-ofZ w32 (result s) (fits s)) (small-result (result s) (fits s) (not-below c)), omega (arith, place, b .pre .2))
+    (b .pre .0, rw (toZ-ofZ w32 (result s) (fits s)) (small-result (result s) (fits s) (not-below c)), omega (arith, place, b .pre .1))
 
 returns-3 : tie.Need-returns-3
 returns-3 c =
     let s = c .before .before .before .before .before in
     let a = s .before .before .args in
     let same = ap (λ (z : ℤ). pos (natAbs z)) (toZ-ofZ w32 (result s) (fits s)) ∙ sym (zero-or-more (result s) (not-below (c .before))) in
-    c .read-success .ensures ∙ ap (successAt (a .m .now) (s .i32-at .result .next) (a .id) (a .kind)) same ∙ leads s
+    c .read-success .ensures ∙ ap (successAt (a .m .now) (s .i32-at .result .next) (a .id) (a .type-number)) same ∙ leads s
 
 pub read-result-spec : {M : Type 1} → statement M
 read-result-spec =

@@ -3,7 +3,7 @@ use mathlib.Core.Path.{refl}
 use borrow.Author.Needs.{needs}
 use Rattle.method.specs.Methods.{ofReply}
 use Rattle.layout.specs.Table.{plan}
-use Rattle.field.specs.Cursors.{none}
+use Rattle.field_reader.specs.Cursors.{none}
 use Rattle.reply_reader.proofs.Answered.{answered}
 use Rattle.reply_reader.proofs.Types.{all-matched}
 use Rattle.reply_reader.proofs.read_success.Statement.{statement}
@@ -58,4 +58,4 @@ read-success-spec =
     (λ c. rw (c .before .match .keys20) (answered (c .finish14 .ensures) refl refl none))
     (λ c. rw (c .before .match .keys21) (c .read-statfs .ensures))
     (λ c. rw (c .before .match .keys22) (answered (c .finish15 .ensures) refl refl none))
-    (λ c. let b = c .before .before in absurd (all-matched (b .args .kind) (b .pre .0) (b .pre .1) (c .match .rest))))
+    (λ c. let b = c .before .before in absurd (all-matched (b .args .type-number) (b .pre .0) (c .match .rest))))

@@ -5,7 +5,7 @@ use native.Mathlib.Omega.{arith}
 use borrow.Author.Needs.{needs}
 use Rattle.layout.specs.Values.{part}
 use Rattle.layout.specs.Names.{firstName}
-use Rattle.names_writer.proofs.Taking.{NameHere, name-given, names-none, names-ended}
+use Rattle.readdir_writer.proofs.Taking.{NameHere, name-given, names-none, names-ended}
 use Rattle.reply_rewriter.proofs.Meeting.{Left, left-all, left-fits, left-next, left-end}
 use Rattle.reply_rewriter.proofs.meet_names.Statement.{statement}
 use Rattle.reply_rewriter.proofs.meet_names.Tie as tie

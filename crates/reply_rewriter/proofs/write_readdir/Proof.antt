@@ -7,8 +7,8 @@ use mir.Syntax.{w32}
 use mir.Val.{toZ, ofZ}
 use mir.ValLaws.{toZ-ofZ}
 use borrow.Author.Needs.{needs}
-use Rattle.store.specs.Stored.{none, more}
-use Rattle.names_writer.proofs.Readdirs.{sign-refused, checks-right}
+use Rattle.field_writer.specs.Stored.{none, more}
+use Rattle.readdir_writer.proofs.Readdirs.{sign-refused, checks-right}
 use Rattle.reply_rewriter.proofs.Meeting.{met-wrote}
 use Rattle.reply_rewriter.proofs.write_readdir.Statement.{statement}
 use Rattle.reply_rewriter.proofs.write_readdir.Tie as tie

@@ -2,13 +2,14 @@
 use mir.Syntax.{w32}
 use mir.ValLaws.{toZ-ofZ}
 use borrow.Author.Needs.{needs}
-use Rattle.store.specs.Stored.{none, more}
+use Rattle.field_writer.specs.Stored.{none, more}
 use Rattle.reply_writer.proofs.put_result.Statement.{statement}
 use Rattle.reply_writer.proofs.put_result.Tie as tie
 
 returns : tie.Need-returns
 returns c =
-    let x = c .before .before .before .before .before .before .before .before .before .args .result in
+    let early = c .before .before .before .before .before .before .before .before .before in
+    let x = early .args .result in
     rw (← (toZ-ofZ w32 x (search needs)))
     (more (c .before .before .before .before .before .before .put-header .ensures) (more (c .before .before .put-i32 .ensures) none))
 

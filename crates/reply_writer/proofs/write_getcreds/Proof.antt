@@ -9,7 +9,9 @@ use Rattle.reply_writer.proofs.write_getcreds.Tie as tie
 
 returns : tie.Need-returns
 unfolding plan ofReply
-returns c = plain-reply _ _ (c .before .before .before .before .before .before .before .before .before .before .before .before .before .args .creds .now) (rw (← (c .before .before .before .before .before .before .before .before .before .before .is-text .ensures)) (c .before .before .before .before .before .before .before .before .before .admit .ensures)) refl (c .finish .ensures) (c .before .before .before .before .before .before .before .put-header .ensures) (c .before .before .before .put-run .ensures)
+returns c =
+    let early = c .before .before .before .before .before .before .before in
+    plain-reply _ _ (early .before .before .before .before .before .before .args .creds .now) (rw (← (early .before .before .before .is-text .ensures)) (early .before .before .admit .ensures)) refl (c .finish .ensures) (early .put-header .ensures) (c .before .before .before .put-run .ensures)
 
 pub write-getcreds-spec : {M : Type 1} → statement M
 write-getcreds-spec = tie.close (tie.spec (λ c κs. search needs) (λ c κs. search needs) (λ c κs. search needs) (λ c κs. search needs) (λ c κs. search needs) (λ c. search needs) returns)

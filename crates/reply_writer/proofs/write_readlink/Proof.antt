@@ -12,9 +12,10 @@ use Rattle.reply_writer.proofs.write_readlink.Tie as tie
 returns : tie.Need-returns
 unfolding plan ofReply
 returns c =
-    let x = c .before .before .before .before .before .before .before .before .before .before .before .before .before .args .result in
+    let early = c .before .before .before .before .before .before .before in
+    let x = early .before .before .before .before .before .before .args .result in
     rw (← (toZ-ofZ w32 x (search needs)))
-    (run-reply (c .before .before .before .before .before .before .before .before .before .before .before .before .before .args .resolved .now) (record { is = rw (← (c .before .before .before .before .before .before .before .before .before .admit .ensures)) (c .before .before .before .before .before .before .before .put-result .ensures) }) (c .finish .ensures) refl refl (c .before .before .before .before .before .before .before .before .before .before .is-text .ensures) refl (c .before .before .before .put-run .ensures))
+    (run-reply (early .before .before .before .before .before .before .args .resolved .now) (record { is = rw (← (early .before .before .admit .ensures)) (early .put-result .ensures) }) (c .finish .ensures) refl refl (early .before .before .before .is-text .ensures) refl (c .before .before .before .put-run .ensures))
 
 pub write-readlink-spec : {M : Type 1} → statement M
 write-readlink-spec = tie.close (tie.spec (λ c κs. search needs) (λ c κs. search needs) (λ c κs. search needs) (λ c κs. search needs) (λ c κs. search needs) (λ c. search needs) returns)

@@ -3,7 +3,7 @@ use mathlib.Core.Path.{refl}
 use mir.Syntax.{w32}
 use mir.ValLaws.{toZ-ofZ}
 use borrow.Author.Needs.{needs}
-use Rattle.store.specs.Stored.{done}
+use Rattle.field_writer.specs.Stored.{done}
 use Rattle.reply_writer.proofs.Replied.{numbers-reply}
 use Rattle.reply_writer.proofs.write_result.Statement.{statement}
 use Rattle.reply_writer.proofs.write_result.Tie as tie

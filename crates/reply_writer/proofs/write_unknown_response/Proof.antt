@@ -2,7 +2,7 @@
 use borrow.Author.Needs.{needs}
 use Rattle.layout.specs.Table.{plan}
 use Rattle.layout.specs.Writing.{encodeMessage, write}
-use Rattle.writer.proofs.Writers.{headed}
+use Rattle.message_writer.proofs.Writers.{headed}
 use Rattle.reply_writer.proofs.write_unknown_response.Statement.{statement}
 use Rattle.reply_writer.proofs.write_unknown_response.Tie as tie
 

@@ -7,8 +7,9 @@ use Rattle.request_lines.proofs.put_access.Tie as tie
 
 returns : tie.Need-returns
 returns c =
-    rw (← (widened-is (c .before .before .before .before .before .before .before .before .before .before .before .fits .mode)))
-    (more (c .before .before .before .before .before .before .before .put-number .ensures) (more (c .before .before .put-signed .ensures) none))
+    let early = c .before .before .before .before .before .before .before in
+    rw (← (widened-is (early .before .before .before .before .fits .mode)))
+    (more (early .put-number .ensures) (more (c .before .before .put-signed .ensures) none))
 
 pub put-access-spec : {M : Type 1} → statement M
-put-access-spec = tie.close (tie.spec (λ c. search needs) (λ c κs. search needs) (λ c. search needs) (λ c. widened-fits (c .before .before .before .before .before .before .before .before .fits .mode)) (λ c κs. search needs) (λ c. search needs) returns)
+put-access-spec = tie.close (tie.spec (λ c. search needs) (λ c κs. search needs) (λ c. search needs) (λ c. let early = c .before .before .before .before .before .before .before .before in widened-fits (early .fits .mode)) (λ c κs. search needs) (λ c. search needs) returns)

@@ -8,9 +8,10 @@ use Rattle.request_lines.proofs.put_open.Tie as tie
 
 returns : tie.Need-returns
 returns c =
-    let s = c .before .before .before .before .before .before .before .before .before .before .before in
+    let early = c .before .before .before .before .before .before .before in
+    let s = early .before .before .before .before in
     rw (← (toZ-ofZ w32 (s .args .flags) (s .fits .flags)))
-    (more (c .before .before .before .before .before .before .before .put-number .ensures) (more (c .before .before .put-signed .ensures) none))
+    (more (early .put-number .ensures) (more (c .before .before .put-signed .ensures) none))
 
 pub put-open-spec : {M : Type 1} → statement M
 put-open-spec = tie.close (tie.spec (λ c. search needs) (λ c κs. search needs) (λ c. search needs) (λ c κs. search needs) (λ c. search needs) returns)

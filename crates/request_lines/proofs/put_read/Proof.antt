@@ -6,7 +6,9 @@ use Rattle.request_lines.proofs.put_read.Tie as tie
 
 returns : tie.Need-returns
 returns c =
-    more (c .before .before .before .before .before .before .before .before .before .before .before .before .before .before .before .before .before .put-number .ensures) (more (c .before .before .before .before .before .before .before .before .before .before .before .before .put-number2 .ensures) (more (c .before .before .before .before .before .before .before .put-number3 .ensures) (more (c .before .before .put-number4 .ensures) none)))
+    let early = c .before .before .before .before .before .before .before in
+    let earlier = early .before .before .before .before .before .before .before .before .before .before in
+    more (earlier .put-number .ensures) (more (early .before .before .before .before .before .put-number2 .ensures) (more (early .put-number3 .ensures) (more (c .before .before .put-number4 .ensures) none)))
 
 pub put-read-spec : {M : Type 1} → statement M
 put-read-spec = tie.close (tie.spec (λ c. search needs) (λ c κs. search needs) (λ c. search needs) (λ c κs. search needs) (λ c. search needs) (λ c κs. search needs) (λ c. search needs) (λ c κs. search needs) (λ c. search needs) returns)

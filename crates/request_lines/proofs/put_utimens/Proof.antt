@@ -6,9 +6,11 @@ use Rattle.request_lines.proofs.put_utimens.Tie as tie
 
 returns : tie.Need-returns
 returns c =
-    more (c .before .before .before .before .before .before .before .before .before .before .before .before .before .before .before .before .before .before .before .put-number .ensures)
-    (two-more (c .before .before .before .before .before .before .before .before .before .before .before .before .before .put-time .ensures)
-    (two-more (c .before .before .before .before .before .before .before .put-time2 .ensures) (more (c .before .before .put-number2 .ensures) none)))
+    let early = c .before .before .before .before .before .before .before in
+    let earlier = early .before .before .before .before .before .before .before .before .before .before .before .before in
+    more (earlier .put-number .ensures)
+    (two-more (early .before .before .before .before .before .before .put-time .ensures)
+    (two-more (early .put-time2 .ensures) (more (c .before .before .put-number2 .ensures) none)))
 
 pub put-utimens-spec : {M : Type 1} → statement M
 put-utimens-spec = tie.close (tie.spec (λ c. search needs) (λ c κs. search needs) (λ c. search needs) (λ c. search needs) (λ c κs. search needs) (λ c. search needs) (λ c. search needs) (λ c κs. search needs) (λ c. search needs) (λ c κs. search needs) (λ c. search needs) returns)

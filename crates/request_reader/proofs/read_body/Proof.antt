@@ -56,4 +56,4 @@ read-body-spec =
     (λ c. rw (c .before .match .keys21) (c .read-statfs .ensures))
     (λ c. rw (c .before .match .keys22) (c .read-utimens .ensures))
     (λ c. rw (c .before .match .keys23) (c .read-getcreds .ensures))
-    (λ c. let a = c .before .before .args in not-known (a .m .now) (a .id) (a .kind) (c .match .rest)))
+    (λ c. let a = c .before .before .args in not-known (a .m .now) (a .id) (a .type-number) (c .match .rest)))

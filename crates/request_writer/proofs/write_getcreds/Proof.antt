@@ -3,7 +3,7 @@ use borrow.Author.Needs.{needs}
 use Rattle.method.specs.Methods.{ofRequest}
 use Rattle.layout.specs.Table.{plan}
 use Rattle.layout.specs.Writing.{encodeMessage, write}
-use Rattle.writer.proofs.Writers.{headed}
+use Rattle.message_writer.proofs.Writers.{headed}
 use Rattle.request_writer.proofs.write_getcreds.Statement.{statement}
 use Rattle.request_writer.proofs.write_getcreds.Tie as tie
 

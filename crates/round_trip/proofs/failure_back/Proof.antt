@@ -9,7 +9,7 @@ use borrow.Author.Needs.{needs}
 use Rattle.number.proofs.TwosComplement.{machine-fits}
 use Rattle.layout.specs.Table.{reply}
 use Rattle.layout.specs.Reading.{read}
-use Rattle.writer.proofs.RoundTrip.{length-inside}
+use Rattle.message_writer.proofs.Finished.{length-inside}
 use Rattle.reply_reader.specs.Answers.{answerOf}
 use Rattle.round_trip.proofs.Replies.{failure-back}
 use Rattle.round_trip.proofs.failure_back.Statement.{statement}
@@ -24,7 +24,7 @@ returns c =
     let start = written .before .before .before in
     let after = written .write-failure .last .1 .1 .1 .0 in
     let reads = subst (λ (k : ℕ). answerOf (take k after) (c .read-reply .result) ≡ read reply (take k after)) (c .before .before .len .ensures) (c .read-reply .ensures) in
-    failure-back (start .args .out .now) reads (start .args .id) (start .fits .id .fits) (start .args .kind) (start .args .result) (start .fits .kind .fits) (machine-fits w32 4 refl (start .args .result) (start .fits .result)) (rw (toZ-ofZ w32 (start .args .result) (start .fits .result)) at (written .write-failure .ensures))
+    failure-back (start .args .out .now) reads (start .args .id) (start .fits .id .fits) (start .args .type-number) (start .args .result) (start .fits .type-number .fits) (machine-fits w32 4 refl (start .args .result) (start .fits .result)) (rw (toZ-ofZ w32 (start .args .result) (start .fits .result)) at (written .write-failure .ensures))
 
 pub failure-back-spec : {M : Type 1} → statement M
 failure-back-spec =

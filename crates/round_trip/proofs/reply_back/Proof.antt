@@ -8,7 +8,7 @@ use mir.ValLaws.{toZ-ofZ}
 use borrow.Author.Needs.{needs}
 use Rattle.layout.specs.Table.{reply}
 use Rattle.layout.specs.Reading.{read}
-use Rattle.writer.proofs.RoundTrip.{length-inside}
+use Rattle.message_writer.proofs.Finished.{length-inside}
 use Rattle.reply_reader.specs.Answers.{answerOf}
 use Rattle.round_trip.proofs.Fitting.{reply-fits}
 use Rattle.round_trip.proofs.Replies.{success-back}

@@ -10,14 +10,16 @@ use Rattle.round_trip.proofs.request_again.Tie as tie
 
 returns : tie.Need-returns
 returns c =
+    let early = c .before .before .before .before .before .before .before in
     let told = c .before .before .before .before .before .answer .given in
-    let reading = c .before .before .before .before .before .before .before in
+    let reading = early in
     accepted-again request (reading .before .before .before .args .message .now) (reading .before .before .before .args .out .now) _ _ _ _ _ (λ (j : ℕ). reading .before .before .shared-slice-known .given j .fits) (sym (reading .read-request .ensures) ∙ ap answerOf (told .1)) (c .before .before .write-request .ensures)
 
 returns-2 : tie.Need-returns-2
 returns-2 c =
+    let early = c .before .before .before .before .before .before .before in
     let told = c .before .before .before .before .before .answer2 .given in
-    let reading = c .before .before .before .before .before .before .before in
+    let reading = early in
     accepted-again request (reading .before .before .before .args .message .now) (reading .before .before .before .args .out .now) _ _ _ _ _ (λ (j : ℕ). reading .before .before .shared-slice-known .given j .fits) (sym (reading .read-request .ensures) ∙ ap answerOf (told .1)) (c .before .before .write-unknown .ensures)
 
 returns-3 : tie.Need-returns-3

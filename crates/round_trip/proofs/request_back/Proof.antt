@@ -1,15 +1,14 @@
 -- `round_trip::request_back` meets its contract. Assumes nothing.
 use Prim.Native.Nat.{ℕ}
 use mathlib.Core.Path.{_≡_, sym, subst}
-use mathlib.Core.List.{map}
 use lib.ListN.{take}
 use lib.Seq.{length-take-le}
 use borrow.Author.Needs.{needs}
 use Rattle.layout.specs.Table.{request}
 use Rattle.layout.specs.Reading.{read}
-use Rattle.field.specs.Values.{shownIn}
-use Rattle.writer.proofs.RoundTrip.{length-inside}
-use Rattle.request_reader.specs.Answers.{answerOf, methodOf, valuesOf}
+use Rattle.message_writer.proofs.Finished.{length-inside}
+use Rattle.request_reader.specs.Answers.{answerOf, methodOf}
+use Rattle.request_rewriter.specs.Rewriting.{valuesIn}
 use Rattle.round_trip.proofs.Fitting.{request-fits}
 use Rattle.round_trip.proofs.Requests.{request-back}
 use Rattle.round_trip.proofs.request_back.Statement.{statement}
@@ -25,7 +24,7 @@ returns c =
     let reads = subst (λ (k : ℕ). answerOf (c .read-request .result) ≡ read request (take k (written .write-request .last .1 .1 .1 .0))) (c .before .before .len .ensures) (c .read-request .ensures) in
     let q = start .args .request in
     let s = start .args .texts .now in
-    request-back (start .args .out .now) reads (methodOf q) (start .args .id) (map (shownIn s) (valuesOf q)) (start .fits .id .fits) (request-fits s q _ (start .good .1 .0)) (written .write-request .ensures)
+    request-back (start .args .out .now) reads (methodOf q) (start .args .id) (valuesIn s q) (start .fits .id .fits) (request-fits s q _ (start .good .1 .0)) (written .write-request .ensures)
 
 pub request-back-spec : {M : Type 1} → statement M
 request-back-spec =

@@ -6,7 +6,7 @@ use lib.Seq.{length-take-le}
 use borrow.Author.Needs.{needs}
 use Rattle.layout.specs.Table.{request}
 use Rattle.layout.specs.Reading.{read}
-use Rattle.writer.proofs.RoundTrip.{length-inside}
+use Rattle.message_writer.proofs.Finished.{length-inside}
 use Rattle.request_reader.specs.Answers.{answerOf}
 use Rattle.round_trip.proofs.Requests.{unknown-back}
 use Rattle.round_trip.proofs.unknown_request_back.Statement.{statement}
@@ -20,7 +20,7 @@ returns c =
     let written = c .before .before .before .before .before in
     let start = written .before .before .before in
     let reads = subst (λ (k : ℕ). answerOf (c .read-request .result) ≡ read request (take k (written .write-unknown .last .1 .1 .0))) (c .before .before .len .ensures) (c .read-request .ensures) in
-    unknown-back _ reads _ _ (start .fits .id .fits) (start .fits .kind .fits) (written .write-unknown .ensures)
+    unknown-back _ reads _ _ (start .fits .id .fits) (start .fits .type-number .fits) (written .write-unknown .ensures)
 
 pub unknown-request-back-spec : {M : Type 1} → statement M
 unknown-request-back-spec =

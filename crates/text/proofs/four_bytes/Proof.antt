@@ -9,7 +9,9 @@ use Rattle.text.proofs.four_bytes.Statement.{statement}
 use Rattle.text.proofs.four_bytes.Tie as tie
 
 abbrev start : tie.After-within3 → tie.Start
-start c = c .before .before .before .before .before .before .before .before
+start c =
+    let early = c .before .before .before .before .before .before .before .before in
+    early
 
 returns : tie.Need-returns
 returns c = let a = c .before .before .args in too-few (a .lo to a .hi) (tail ∷ tail ∷ []) (a .s .now) (a .at) 4 (omega arith)

@@ -1,57 +1,11 @@
--- `method::Method::reply_number` meets its contract: each arm is the table's. Assumes nothing.
-use mathlib.Core.Path.{ap, sym}
+-- `method::Method::reply_number` meets its contract: no sum leaves the type. Assumes nothing.
 use borrow.Author.Needs.{needs}
-use Rattle.method.specs.Methods.{replyNumber}
+use Rattle.method.proofs.Table.{request-below}
 use Rattle.method.proofs.Method.reply_number.Statement.{statement}
 use Rattle.method.proofs.Method.reply_number.Tie as tie
 
+add-result : tie.Need-add-result
+add-result c = let below = request-below (c .before .args .self) in search needs
+
 pub reply-number-spec : {M : Type 1} → statement M
-reply-number-spec =
-    tie.close
-    (tie.spec
-    (λ c. search needs)
-    (λ c. search needs)
-    (λ c. search needs)
-    (λ c. search needs)
-    (λ c. search needs)
-    (λ c. search needs)
-    (λ c. search needs)
-    (λ c. search needs)
-    (λ c. search needs)
-    (λ c. search needs)
-    (λ c. search needs)
-    (λ c. search needs)
-    (λ c. search needs)
-    (λ c. search needs)
-    (λ c. search needs)
-    (λ c. search needs)
-    (λ c. search needs)
-    (λ c. search needs)
-    (λ c. search needs)
-    (λ c. search needs)
-    (λ c. search needs)
-    (λ c. search needs)
-    (λ c. search needs)
-    (λ c. ap replyNumber (sym (c .enum-told .given .1)))
-    (λ c. ap replyNumber (sym (c .enum-told2 .given .1)))
-    (λ c. ap replyNumber (sym (c .enum-told3 .given .1)))
-    (λ c. ap replyNumber (sym (c .enum-told4 .given .1)))
-    (λ c. ap replyNumber (sym (c .enum-told5 .given .1)))
-    (λ c. ap replyNumber (sym (c .enum-told6 .given .1)))
-    (λ c. ap replyNumber (sym (c .enum-told7 .given .1)))
-    (λ c. ap replyNumber (sym (c .enum-told8 .given .1)))
-    (λ c. ap replyNumber (sym (c .enum-told9 .given .1)))
-    (λ c. ap replyNumber (sym (c .enum-told10 .given .1)))
-    (λ c. ap replyNumber (sym (c .enum-told11 .given .1)))
-    (λ c. ap replyNumber (sym (c .enum-told12 .given .1)))
-    (λ c. ap replyNumber (sym (c .enum-told13 .given .1)))
-    (λ c. ap replyNumber (sym (c .enum-told14 .given .1)))
-    (λ c. ap replyNumber (sym (c .enum-told15 .given .1)))
-    (λ c. ap replyNumber (sym (c .enum-told16 .given .1)))
-    (λ c. ap replyNumber (sym (c .enum-told17 .given .1)))
-    (λ c. ap replyNumber (sym (c .enum-told18 .given .1)))
-    (λ c. ap replyNumber (sym (c .enum-told19 .given .1)))
-    (λ c. ap replyNumber (sym (c .enum-told20 .given .1)))
-    (λ c. ap replyNumber (sym (c .enum-told21 .given .1)))
-    (λ c. ap replyNumber (sym (c .enum-told22 .given .1)))
-    (λ c. ap replyNumber (sym (c .enum-told23 .given .1))))
+reply-number-spec = tie.close (tie.spec (λ c κs. search needs) add-result (λ c. search needs))

@@ -1,4 +1,4 @@
--- `names_iterator::Iter::next` meets its contract: a walk of its MIR, by hand. The borrow is opened; `names::next` is called on the
+-- `names_iterator::Iter::next` meets its contract: a walk of its MIR, by hand. The borrow is opened; `names::step_at` is called on the
 -- reply and the position that the struct holds, and `names::behind` on its answer; the position so met is stored beside the reply; and the
 -- borrow is closed at the struct with that position. Assumes nothing.
 use mathlib.Core.Path.{_≡_, refl, ap, _∙_}
@@ -46,10 +46,10 @@ use Rattle.names.proofs.Position as P
 use Rattle.names.proofs.Position.Laws as P′
 use Rattle.names.proofs.Step as S
 use Rattle.names.proofs.Step.Laws as S′
-use Rattle.names.proofs.next as step
-use Rattle.names.proofs.next.Symbol as step-def
-use Rattle.names.proofs.next.Symbol.{name as #names·next}
-use Rattle.names.proofs.next.Met as step-thm
+use Rattle.names.proofs.step_at as step
+use Rattle.names.proofs.step_at.Symbol as step-def
+use Rattle.names.proofs.step_at.Symbol.{name as #names·step-at}
+use Rattle.names.proofs.step_at.Met as step-thm
 use Rattle.names.proofs.behind as position
 use Rattle.names.proofs.behind.Symbol as position-def
 use Rattle.names.proofs.behind.Symbol.{name as #names·behind}
@@ -146,7 +146,7 @@ module _ {M : Type 1} (𝓤 : URA M) (H : Heap 𝓤) (A : Atoms 𝓤) (W : Given
       suffices ! _ (ends-at 𝓤 H A next.ended stayed (next.clauses 𝓤 H A at-mem run) W (((κ, (κ′, tt)), (q, (q′, tt)), bounds, x, at), tt) u s (made p, tt) (tt, tt)) $ says ! (e, refl, r) $
       move ! (2 ∷ 3 ∷ []) $ join ! $ frame ! $ feqI ! (List Val) (vptr b o ∷ []) (vptr b o ∷ []) refl $ fjoin3 ! $ nothing ! $ move ! (1 ∷ 0 ∷ []) $ fjoin ! $ done !
 
-  module _ (C : Calls 𝓤 H) (Λ : Loops 𝓤 H) (fm : FmC 𝓤 H (W .laws) C) (known-next : Triple 𝓤 (C #names·next) (Nexts 𝓤 H A at-mem run)) (known-behind : Triple 𝓤 (C #names·behind) (Behinds 𝓤 H A at-mem run)) where
+  module _ (C : Calls 𝓤 H) (Λ : Loops 𝓤 H) (fm : FmC 𝓤 H (W .laws) C) (known-next : Triple 𝓤 (C #names·step-at) (Nexts 𝓤 H A at-mem run)) (known-behind : Triple 𝓤 (C #names·behind) (Behinds 𝓤 H A at-mem run)) where
     walk : ent 𝓤 (onEntry 𝓤 H A next.signature (κ, (κ′, tt)) (q, (q′, tt)) x at) (WpFn 𝓤 H C Λ code.function (vptr b o ∷ []) Post)
     walk =
         qed W ((‵ (flft κ q) ⊛ ‵ (flft κ′ q′) ⊛ ‵ ftrue) ∷ ‵ (owns (MutRef (named 0) κ (R κ′) ∷ []) x at) ∷ []) ∵ enter ! C Λ code.function (vptr b o ∷ []) _ $
@@ -181,13 +181,13 @@ module _ {M : Type 1} (𝓤 : URA M) (H : Heap 𝓤) (A : Atoms 𝓤) (W : Given
         move ! (16 ∷ 17 ∷ []) $ free1 ! $ move ! (14 ∷ 15 ∷ []) $ free1 ! $ move ! (12 ∷ 13 ∷ []) $ free1 ! $ move ! (10 ∷ 11 ∷ []) $ free1 ! $ move ! (8 ∷ 9 ∷ []) $ free1 ! $ move ! (6 ∷ 7 ∷ []) $ free1 ! $ free0 ! $ keep ! (0 ∷ 1 ∷ 2 ∷ 4 ∷ 3 ∷ []) $ by ! (exits s u p e (b′ ∙ ap behind e))))))))))))))
 
 module _ {M : Type 1} (𝓤 : URA M) (H : Heap 𝓤) (A : Atoms 𝓤) (W : Given 𝓤 H A) (mem : Memory → SProp 𝓤) (run : Routine → Fun 𝓤) where
-  next-walks : (C : Calls 𝓤 H) (Λ : Loops 𝓤 H) → FmC 𝓤 H (W .laws) C → Triple 𝓤 (C #names·next) (Nexts 𝓤 H A mem run) → Triple 𝓤 (C #names·behind) (Behinds 𝓤 H A mem run)
+  next-walks : (C : Calls 𝓤 H) (Λ : Loops 𝓤 H) → FmC 𝓤 H (W .laws) C → Triple 𝓤 (C #names·step-at) (Nexts 𝓤 H A mem run) → Triple 𝓤 (C #names·behind) (Behinds 𝓤 H A mem run)
       → Walks 𝓤 H A next.ended stayed (WpFn 𝓤 H C Λ code.function) (next.clauses 𝓤 H A mem run)
   next-walks C Λ fm known-next known-behind = walked 𝓤 H A next.ended stayed (next.clauses 𝓤 H A mem run) (WpFn 𝓤 H C Λ code.function) (λ κs. (ptr-vals, tt)) (λ κs. (mut-tells (named 0) (κs .0) (R (κs .1 .0)), tt))
       (λ κs qs bounds a g are. via 𝓤 _ (fst∗ 𝓤 _ (emp 𝓤)) (walk 𝓤 H A W mem run (κs .0) (κs .1 .0) (qs .0) (qs .1 .0) bounds (a .0 .ptr .0) (a .0 .ptr .1) (a .0 .name) (a .0 .now) C Λ fm known-next known-behind))
 
 next-meets : {M : Type 1} (𝓤 : URA M) (H : Heap 𝓤) (A : Atoms 𝓤) (W : Given 𝓤 H A) (mem : Memory → SProp 𝓤) (run : Routine → Fun 𝓤) (𝓣 : Tables 𝓤 H)
-    → Triple 𝓤 (𝓣 .C #names·next) (Nexts 𝓤 H A mem run) → Triple 𝓤 (𝓣 .C #names·behind) (Behinds 𝓤 H A mem run)
+    → Triple 𝓤 (𝓣 .C #names·step-at) (Nexts 𝓤 H A mem run) → Triple 𝓤 (𝓣 .C #names·behind) (Behinds 𝓤 H A mem run)
     → Meets 𝓤 H A next.signature (WpFn 𝓤 H (𝓣 .C) (𝓣 .Λ) code.function) (next.spec 𝓤 H A mem run)
 next-meets 𝓤 H A W mem run 𝓣 known-next known-behind = walk-meets 𝓤 H A next.ended stayed W (goes-ref 𝓤 H A W 2 0 tt lent, tt) (next.clauses 𝓤 H A mem run) (WpFn 𝓤 H (𝓣 .C) (𝓣 .Λ) code.function) (WpFn-mono 𝓤 H (W .laws) 𝓣 code.function)
     (next-walks 𝓤 H A W mem run (𝓣 .C) (𝓣 .Λ) (fmOf 𝓤 H (W .laws) 𝓣) known-next known-behind)
@@ -198,5 +198,5 @@ next-spec 𝓤 H 𝓜 𝓖 𝓡 =
     entered 𝓤 H (tripleOf 𝓤 H (𝓖 .A) next.signature (next.spec 𝓤 H (𝓖 .A) (𝓜 .mem) (𝓡 .run)))
     (tables 𝓤 H 𝓜 𝓡 code.env .C) (tables 𝓤 H 𝓜 𝓡 code.env .Λ) #names-iterator·next code.function (code.unfolded 𝓤 H 𝓜 𝓡)
     (next-meets 𝓤 H (𝓖 .A) (givenOf 𝓤 H 𝓜 𝓖) (𝓜 .mem) (𝓡 .run) (tablesOf 𝓤 H 𝓜 (tables 𝓤 H 𝓜 𝓡 code.env))
-    (cited 𝓤 H (Nexts 𝓤 H (𝓖 .A) (𝓜 .mem) (𝓡 .run)) 𝓜 𝓡 code.env #names·next step-def.routine code.calls-names·next (step-thm.met 𝓤 H 𝓜 𝓖 𝓡))
+    (cited 𝓤 H (Nexts 𝓤 H (𝓖 .A) (𝓜 .mem) (𝓡 .run)) 𝓜 𝓡 code.env #names·step-at step-def.routine code.calls-names·step-at (step-thm.met 𝓤 H 𝓜 𝓖 𝓡))
     (cited 𝓤 H (Behinds 𝓤 H (𝓖 .A) (𝓜 .mem) (𝓡 .run)) 𝓜 𝓡 code.env #names·behind position-def.routine code.calls-names·behind (position-thm.met 𝓤 H 𝓜 𝓖 𝓡)))

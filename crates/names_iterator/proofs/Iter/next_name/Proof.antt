@@ -30,7 +30,7 @@ use denote.Triple.Table.{entered, cited}
 use denote.Triple.Walked.{says, Stays, stay-none, walkOf, goes-none, Walks, ends-at, walked, walk-meets}
 use denote.Exit.{yes}
 use denote.Triple.Clauses.{ensured, lasts}
-use Rattle.field.specs.Cursors.{Shows}
+use Rattle.wire.specs.Runs.{Shows}
 use Rattle.names.specs.Positions.{nameOf}
 use Rattle.names.proofs.Position.Laws as P′
 use Rattle.names.proofs.next_name as next

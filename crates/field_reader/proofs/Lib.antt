@@ -1,0 +1,4 @@
+pub mod Cursors
+pub mod Headers
+pub mod NamesMet
+mod Types

@@ -1,0 +1,11 @@
+-- `field_reader::timestamp_at` meets its contract. Assumes nothing.
+use borrow.Author.Needs.{needs}
+use Rattle.field_reader.specs.Cursors.{none, more}
+use Rattle.field_reader.proofs.timestamp_at.Statement.{statement}
+use Rattle.field_reader.proofs.timestamp_at.Tie as tie
+
+returns : tie.Need-returns
+returns c = search (more, none)
+
+pub timestamp-at-spec : {M : Type 1} → statement M
+timestamp-at-spec = tie.close (tie.spec (λ c κs. search needs) (λ c κs. search needs) returns)

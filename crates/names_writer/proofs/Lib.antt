@@ -1,5 +1,0 @@
-pub mod Again
-pub mod Copying
-pub mod Lengths
-pub mod Readdirs
-pub mod Taking

@@ -1,0 +1,5 @@
+pub mod CollectedParts
+pub mod Copying
+pub mod Lengths
+pub mod Readdirs
+pub mod Taking

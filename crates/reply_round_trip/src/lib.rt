@@ -1,1 +1,0 @@
-// Replies through writer and reader: laws that follow from their contracts. No code.

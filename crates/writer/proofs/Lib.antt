@@ -1,2 +1,0 @@
-pub mod RoundTrip
-pub mod Writers
