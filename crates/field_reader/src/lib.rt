@@ -11,7 +11,7 @@ ghost use Rattle.layout.specs.Names.{namesAt};
 ghost use Rattle.layout.specs.Front.{typeOf};
 ghost use Rattle.field_reader.specs.Headers.{HeaderRead};
 ghost use Rattle.field_reader.specs.Cursors.{Ended, Took, Reads};
-ghost use Rattle.wire.specs.Runs.{partOf, Shows};
+ghost use Rattle.wire.specs.Runs.{partOf};
 ghost use Rattle.wire.specs.Values.{timeValues, attributesValues, statisticsValues};
 use number::ReadU8;
 use number::ReadU32;
@@ -92,8 +92,8 @@ pub struct HeaderField {
     pub next: Cursor,
 }
 
-// The header of a message of either side. The message is refused where it is shorter than a header, which is then all 0, or oversize, and then
-// its header is read all the same. Refuses 1, 2.
+// The header of a message of either side. A message that is shorter than a header is refused, with id and type 0; an oversize one is refused with its
+// id and type. Refuses 1, 2.
 pub fn read_header(m: &[u8]) -> HeaderField
     ensures { λ r. ⌜ HeaderRead (now (m .entry)) (r .value) (r .next) ⌝ }
 {
@@ -181,7 +181,8 @@ fn word_at(m: &[u8], c: Cursor) -> U32Field
     }
 }
 
-// A field of type u8. As every field: at a refused cursor nothing is read; where it does not fit, it refuses 4 where it begins.
+// A field of type u8. At a refused cursor nothing is read, as with every field. Refuses 4 where the number begins that does not fit; of a text or
+// data that may be its run, of a structure a member.
 pub fn u8_at(m: &[u8], c: Cursor) -> U8Field
     ensures { λ r. ⌜ Took (now (m .entry)) c (num kind·u8) (natural (r .value)) (r .next) ⌝ }
 {

@@ -7,6 +7,7 @@ ghost use Rattle.layout.specs.Writing.{bit};
 ghost use Rattle.field_writer.specs.Stored.{Put, Room};
 ghost use Rattle.lines.specs.Lines.{decimal, mostDigits, integer, lineText, entry, entriesText, timeText, Begins};
 use wire::Cursor;
+use wire::Refusal;
 use wire::Timestamp;
 
 // The most digits of a u64.
@@ -26,7 +27,7 @@ fn digits_of(n: u64, out: &mut [u8; MOST_DIGITS]) -> usize
     io::decimal(n, out)
 }
 
-// A number in decimal.
+// A number in decimal. As every function here it stores the whole text or nothing. Refuses 7.
 pub fn put_decimal(out: &mut [u8], c: Cursor, n: u64) -> Cursor
     ensures { λ r. ⌜ Put (now (out .entry)) c (decimal n) (now (out .exit)) r ⌝ }
 {
@@ -36,6 +37,7 @@ pub fn put_decimal(out: &mut [u8], c: Cursor, n: u64) -> Cursor
 }
 
 // A number with its sign, where it is negative. The magnitude is taken from the bits, so that the least number has one too.
+// Refuses 7.
 pub fn put_integer(out: &mut [u8], c: Cursor, x: i32) -> Cursor
     ensures { λ r. ⌜ Put (now (out .entry)) c (integer x) (now (out .exit)) r ⌝ }
 {
@@ -57,7 +59,7 @@ fn put_negative(out: &mut [u8], c: Cursor, magnitude: u64) -> Cursor
     field_writer::put_all(out, behind_sign, &digits[..len])
 }
 
-// A line of a name and a number.
+// A line of a name and a number. Refuses 7.
 pub fn put_number(out: &mut [u8], c: Cursor, name: &[u8], n: u64) -> Cursor
     ensures { λ r. ⌜ Put (now (out .entry)) c (lineText (now (name .entry) ∷ decimal n ∷ [])) (now (out .exit)) r ⌝ }
 {
@@ -67,6 +69,7 @@ pub fn put_number(out: &mut [u8], c: Cursor, name: &[u8], n: u64) -> Cursor
 }
 
 // The same with a sign, where the number is negative. It is spelled in an array of its own, which has room for each.
+// Refuses 7.
 pub fn put_signed(out: &mut [u8], c: Cursor, name: &[u8], x: i32) -> Cursor
     ensures { λ r. ⌜ Put (now (out .entry)) c (lineText (now (name .entry) ∷ integer x ∷ [])) (now (out .exit)) r ⌝ }
 {
@@ -76,7 +79,7 @@ pub fn put_signed(out: &mut [u8], c: Cursor, name: &[u8], x: i32) -> Cursor
     put_entry(out, c, name, &value[..len], b'\n')
 }
 
-// The same with a bool: true is 1.
+// The same with a bool: true is 1. Refuses 7.
 pub fn put_flag(out: &mut [u8], c: Cursor, name: &[u8], x: bool) -> Cursor
     ensures { λ r. ⌜ Put (now (out .entry)) c (lineText (now (name .entry) ∷ decimal (bit x) ∷ [])) (now (out .exit)) r ⌝ }
 {
@@ -87,14 +90,14 @@ pub fn put_flag(out: &mut [u8], c: Cursor, name: &[u8], x: bool) -> Cursor
     }
 }
 
-// A timestamp: two lines, its seconds and its nanoseconds.
+// A timestamp: two lines, its seconds and its nanoseconds. Refuses 7.
 pub fn put_time(out: &mut [u8], c: Cursor, seconds: &[u8], nsec: &[u8], time: Timestamp) -> Cursor
     ensures { λ r. ⌜ Put (now (out .entry)) c (timeText (now (seconds .entry)) (now (nsec .entry)) time) (now (out .exit)) r ⌝ }
 {
     put_entries(out, c, seconds, time.seconds, b'\n', nsec, time.nsec as u64)
 }
 
-// A line of two words, each with a number behind it.
+// A line of two words, each with a number behind it. Refuses 7.
 pub fn put_pair(out: &mut [u8], c: Cursor, first: &[u8], a: u64, second: &[u8], b: u64) -> Cursor
     ensures { λ r. ⌜ Put (now (out .entry)) c (lineText (now (first .entry) ∷ decimal a ∷ now (second .entry) ∷ decimal b ∷ [])) (now (out .exit)) r ⌝ }
 {
@@ -145,7 +148,7 @@ fn room_for_two(c: Cursor, first: usize, second: usize, len: usize) -> Cursor
 {
     let start = field_writer::room(c, second, len);
     let code = start.code;
-    if code != 0 {
+    if code != Refusal::NONE {
         return start;
     }
     field_writer::room(start, first, len - second)

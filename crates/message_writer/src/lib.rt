@@ -1,4 +1,4 @@
-// How every writer begins and ends: the checks before its first byte, and its answer. Between them it stores its fields (`store`).
+// How every writer begins and ends: the checks before its first byte, and its answer. Between them it stores its fields (`field_writer`).
 ghost use mathlib.Core.Path.{_≡_};
 ghost use mathlib.Core.Bool.{true};
 ghost use Prim.Native.Nat.{_+_};
@@ -13,7 +13,7 @@ use wire::Refusal;
 pub enum Written {
     // So many bytes were stored, from the start of the lent buffer on.
     Stored { len: usize },
-    // Document 01's number of refusal, and its place, which is 0. No byte has changed.
+    // Document 01's number of refusal, and its place: of a writer 0. No byte of the buffer has changed.
     Refused { number: u8, place: usize },
 }
 

@@ -36,7 +36,7 @@ const NAMES: [Name; 23] = [
     Name(*b"getcreds", 8),
 ];
 
-// The name of a method.
+// The name of a method. Refuses 7.
 pub fn put_name(out: &mut [u8], c: Cursor, method: Method) -> Cursor
     ensures { λ r. ⌜ Put (now (out .entry)) c (ascii (nameOf method)) (now (out .exit)) r ⌝ }
 {

@@ -1,4 +1,4 @@
--- Steps one after another, as a caller of `open` and `next` meets them. Assumes nothing.
+-- Steps one after another, as a caller of `open` and `step_at` meets them. Assumes nothing.
 use mathlib.Core.Path.{_≡_, refl, sym, ap, subst, _∙_}
 use mathlib.Core.Bool.{Bool, true, false, cond}
 use mathlib.Core.List.{List, [], _∷_}
@@ -52,9 +52,9 @@ module _ (m : List ℕ) (p : ℕ) {x : Part} {d : Cursor} (h : Took m (place p) 
   pub step-end : (n : ℕ) → 0 < n → (d .code ≡ 0 → ⊥) → ended (position p n) ≡ step m (position p n)
   step-end n l z = sym (step-left m p n l ∙ rw (name-read, ne-eqb (d .code) 0 z))
 
--- ---- calls of `next`, each at the position that the one before it gave
+-- ---- calls of `step_at`, each at the position that the one before it gave
 
--- what `next` promises of its answer s at w
+-- what `step_at` promises of its answer s at w
 pub record Next (m : List ℕ) (w : Position) (s : Step) : Type 0 where
   pub is : stepOf s ≡ step m (positionOf w)
 

@@ -30,7 +30,7 @@ pub data Turns : ℕ → Iter → List Part → Type 0 where
   a-name : {n : ℕ} {it it′ : Iter} {x : Run} {w : Position} {xs : List Part} → Turn it (S.Name x w) it′ → Turns n it′ xs → Turns (suc n) it (partOf x ∷ xs)
   an-end : {n : ℕ} {it it′ : Iter} {w : Position} {xs : List Part} → Turn it (S.End w) it′ → Turns n it′ xs → Turns (suc n) it xs
 
--- the step of a turn is a call of `names::next`
+-- the step of a turn is a call of `names::step_at`
 called : {it it′ : Iter} {s : Step} → Turn it s it′ → law.Next (now (it .reply)) (it .position) s
 called t = record { is = t .takes .0 }
 

@@ -46,7 +46,7 @@ pub fn empty(table: [Record; 64]) -> EnteredTable
     after_entry(answer, records)
 }
 
-// Enters a request by its id and type, into the first free record.
+// Enters a request by its id and type, into the first free record. Refuses 20, 3, 10, 11.
 pub fn enter(table: [Record; 64], id: u32, type_number: u8) -> EnteredTable
     ensures { λ r. ⌜ EnteredAfter (perform (enter·in table id «type_number») table) r ⌝ }
 {
@@ -55,7 +55,8 @@ pub fn enter(table: [Record; 64], id: u32, type_number: u8) -> EnteredTable
     after_entry(answer, records)
 }
 
-// Takes an arriving reply: what its reader answers, and its record is free; or a refusal, and no record has changed.
+// Takes an arriving reply: what its reader answers, and its record is free; or a refusal, and no record has changed. Refuses 20,
+// what the reader refuses, 12, 13.
 pub fn arrive(table: [Record; 64], message: &[u8]) -> ArrivedTable
     ensures { λ r. ⌜ ArrivedAfter (now (message .entry)) (perform (arrive·in table (read reply·side (now (message .entry)))) table) r ⌝ }
 {

@@ -80,7 +80,7 @@ fn refused_entry(len: usize, number: u8) -> Entry
     }
 }
 
-// What entering an id and a type comes to behind the test of soundness, for every table.
+// What entering an id and a type comes to behind the test of soundness, for every table. Refuses 3, 10, 11.
 pub fn insert(words: &[u64], id: u32, type_number: u8) -> Entry
     ensures { λ e. ⌜ EntryDecided (records·of (now (words .entry))) e (insert·in (records·of (now (words .entry))) id «type_number») ⌝ }
 {
@@ -103,7 +103,7 @@ pub fn insert(words: &[u64], id: u32, type_number: u8) -> Entry
     }
 }
 
-// What entering an id and a type comes to.
+// What entering an id and a type comes to. Refuses 20, 3, 10, 11.
 pub fn enter(words: &[u64], id: u32, type_number: u8) -> Entry
     ensures { λ e. ⌜ EntryDecided (records·of (now (words .entry))) e (enter·in (records·of (now (words .entry))) id «type_number») ⌝ }
 {
@@ -190,7 +190,7 @@ fn settle_accepted(words: &[u64], id: u32, type_number: u8, answer: ReplyAnswer)
     }
 }
 
-// What an arriving reply comes to behind the test of soundness, for every table.
+// What an arriving reply comes to behind the test of soundness, for every table. Refuses what the reader refuses, 12, 13.
 pub fn settle(words: &[u64], message: &[u8]) -> Removal
     ensures { λ c. ⌜ RemovalDecided (records·of (now (words .entry))) (now (message .entry)) c
         (settle·in (records·of (now (words .entry))) (read reply·side (now (message .entry)))) ⌝ }
@@ -205,7 +205,7 @@ pub fn settle(words: &[u64], message: &[u8]) -> Removal
     }
 }
 
-// What an arriving reply comes to.
+// What an arriving reply comes to. Refuses 20, what the reader refuses, 12, 13.
 pub fn arrive(words: &[u64], message: &[u8]) -> Removal
     ensures { λ c. ⌜ RemovalDecided (records·of (now (words .entry))) (now (message .entry)) c
         (arrive·in (records·of (now (words .entry))) (read reply·side (now (message .entry)))) ⌝ }
@@ -253,7 +253,7 @@ fn request_of(words: &[u64], id: u32) -> Found
     }
 }
 
-// What a look for an id shows.
+// What a look for an id shows. Refuses 20.
 pub fn look(words: &[u64], id: u32) -> Looked
     ensures { λ r. ⌜ lookedOf r ≡ look·at (records·of (now (words .entry))) id ⌝ }
 {

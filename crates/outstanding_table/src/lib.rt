@@ -12,7 +12,7 @@ use outstanding_decisions::Looked;
 use outstanding_records::Record;
 use wire::Refusal;
 
-// Frees every record.
+// Frees every record. Refuses 20, for the number of records alone.
 pub fn empty(records: &mut [Record]) -> Entered
     ensures { λ r. ⌜ performed (toldOf r) (now (records .exit)) ≡ empty·in Record.Free (now (records .entry)) ⌝ }
 {
@@ -26,7 +26,7 @@ pub fn empty(records: &mut [Record]) -> Entered
     Entered::Done
 }
 
-// Enters a request by its id and type, into the first free record.
+// Enters a request by its id and type, into the first free record. Refuses 20, 3, 10, 11.
 pub fn enter(records: &mut [Record], id: u32, type_number: u8) -> Entered
     ensures { λ r. ⌜ performed (toldOf r) (now (records .exit)) ≡ perform (enter·in (now (records .entry)) id «type_number») (now (records .entry)) ⌝ }
 {
@@ -38,7 +38,8 @@ pub fn enter(records: &mut [Record], id: u32, type_number: u8) -> Entered
     entry.answer
 }
 
-// Takes an arriving reply: what its reader answers, and its record is free; or a refusal, and no record has changed.
+// Takes an arriving reply: what its reader answers, and its record is free; or a refusal, and no record has changed. Refuses 20,
+// what the reader refuses, 12, 13.
 pub fn arrive(records: &mut [Record], message: &[u8]) -> Arrived
     ensures { λ r. ⌜ performed (arrivalOf (now (message .entry)) r) (now (records .exit))
         ≡ perform (arrive·in (now (records .entry)) (read reply·side (now (message .entry)))) (now (records .entry)) ⌝ }
@@ -51,7 +52,7 @@ pub fn arrive(records: &mut [Record], message: &[u8]) -> Arrived
     removal.answer
 }
 
-// Shows how many requests are outstanding, and the one of an id.
+// Shows how many requests are outstanding, and the one of an id. Refuses 20.
 pub fn look(records: &[Record], id: u32) -> Looked
     ensures { λ r. ⌜ lookedOf r ≡ look·at (now (records .entry)) id ⌝ }
 {

@@ -1,6 +1,6 @@
 // The reply reader: the header, the result, then the fields of the method, and one answer.
 ghost use mathlib.Core.Path.{_≡_};
-ghost use Prim.Native.Nat.{_+_, _≤_, _<_};
+ghost use Prim.Native.Nat.{_+_, _<_};
 ghost use lib.IntN.{pos};
 ghost use Rattle.method.specs.declared.Method.the-variants.{Getattr, Readlink, Open, Create, Read, Readdir, Statfs, Getcreds};
 ghost use Rattle.method.specs.Methods.{replyNumber};

@@ -14,7 +14,7 @@ use wire::Run;
 use wire::bytes_of;
 
 // The text, data or names of `reply` stand in `m`: the message that was read, or any slice that has them at the same places. A run that
-// does not lie inside it is written as an empty one.
+// does not lie inside it is written as an empty one. Refuses what the writer of its method refuses.
 pub fn write_reply(id: u32, result: i32, reply: Reply, m: &[u8], out: &mut [u8]) -> Written
     ensures { λ r. ⌜ Writes (rewriting reply id result (now (m .entry))) (out .entry) (out .exit) r ⌝ }
 {

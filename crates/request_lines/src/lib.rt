@@ -11,7 +11,7 @@ use wire::Cursor;
 use wire::Run;
 use wire::Timestamp;
 
-// The lines of a request's fields, in page order.
+// The lines of a request's fields, in page order. Refuses 7.
 pub fn put_fields(out: &mut [u8], c: Cursor, request: Request) -> Cursor
     ensures { λ r. ⌜ AddsFields (now (out .entry)) c (methodOf request) (valuesOf request) (now (out .exit)) r ⌝ }
 {

@@ -5,14 +5,12 @@ ghost use Prim.Native.Nat.{_≤_};
 ghost use lib.ListN.{length};
 ghost use Rattle.method.specs.Methods.{unknown as no·method};
 ghost use Rattle.layout.specs.Writing.{stored};
-ghost use Rattle.request_reader.specs.Answers.{methodOf};
 ghost use Rattle.field_writer.specs.Stored.{Put};
 ghost use Rattle.lines.specs.Lines.{lineText, Begins, AddsLines};
-ghost use Rattle.message_writer.specs.Writers.{toldOf, Wrote};
+ghost use Rattle.message_writer.specs.Writers.{toldOf, Writes};
 ghost use Rattle.request_listing.specs.Listing.{firstLine, closingLine, refusalLine, listing, listed, longestListing};
 ghost use Rattle.request_listing.specs.Rendered.{knownLines, answerLines};
 use message_writer::Written;
-use method::Method;
 use request_reader::Request;
 use request_reader::RequestAnswer;
 use wire::Cursor;
@@ -22,7 +20,7 @@ pub const LONGEST_LISTING: usize = 256;
 
 // The listing of the request `m`, at the start of `out`; or `out` as it was, where it is too small for it. Refuses 7.
 pub fn list_request(m: &[u8], out: &mut [u8]) -> Written
-    ensures { λ r. ⌜ Wrote (listed (now (m .entry)) (now (out .entry))) (now (out .exit)) r ⌝ }
+    ensures { λ r. ⌜ Writes (listed (now (m .entry))) (out .entry) (out .exit) r ⌝ }
     ensures { λ r. ⌜ (longestListing ≤ length (now (out .entry)) → toldOf r ≡ stored (length (listing (now (m .entry))))) ⌝ }
 {
     let mut text = [0u8; LONGEST_LISTING];

@@ -166,9 +166,9 @@ impl Request {
     }
 }
 
-// What reading a request comes to.
+// What reading a request comes to. `known` is the length of the known part.
 pub enum RequestAnswer {
-    // A request of a method, and the length of its known part.
+    // A request of a method.
     Known {
         id: u32,
         request: Request,

@@ -7,7 +7,7 @@ use request_writer::*;
 use wire::bytes_of;
 
 // The runs of `request` are parts of `texts`: the message that was read, or any slice in which the texts and data stand. A run
-// that does not lie inside it is written as an empty one.
+// that does not lie inside it is written as an empty one. Refuses what the writer of its method refuses.
 pub fn write_request(id: u32, request: Request, texts: &[u8], out: &mut [u8]) -> Written
     ensures { λ r. ⌜ Writes (rewriting request id (now (texts .entry))) (out .entry) (out .exit) r ⌝ }
 {

@@ -29,10 +29,15 @@ use Rattle.request_reader.specs.declared.RequestAnswer.the-variants as A
 use Rattle.request_reader.specs.Answers.{methodOf, typeOf, valuesOf, answerOf}
 use Rattle.request_writer.specs.Asking.{asking}
 use Rattle.request_rewriter.specs.Rewriting.{rewriting}
-use Rattle.round_trip.specs.RoundTrip.{ReadAs, Rewritten, Back}
+use Rattle.round_trip.specs.RoundTrip.{again, ReadAs, Rewritten, Back}
 use Rattle.round_trip.proofs.Trips.{small-request, accepted-again, rewritten-same, written-back}
 
 -- ---- read, and written again
+
+-- a request of a method, by `write_request`
+pub request-again : (m : List ℕ) (i : ℕ) (q : Request) (k : ℕ) (out : List ℕ) {after : List ℕ} {r : Written} → Bytes m
+    → answerOf (A.Known i q k) ≡ read request m → Wrote (rewriting q i m out) after r → Wrote (again request m out) after r
+request-again m i q k out by a w = accepted-again request m out known i (typeOf q) k (valuesOf q) by (sym a) w
 
 -- a request of every method but fsync, which alone has a bool: the bytes as they were
 pub request-same : (m : List ℕ) (i : ℕ) (q : Request) (k : ℕ) (out : List ℕ) {after : List ℕ} {r : Written} → Bytes m
@@ -40,7 +45,7 @@ pub request-same : (m : List ℕ) (i : ℕ) (q : Request) (k : ℕ) (out : List 
     → noBool (kinds (row (methodOf q) .request)) ≡ true → Rewritten (take k m) out k after r
 unfolding plan
 request-same m i q k out by a room w b =
-    rewritten-same request m out (sym a) room (rw (request-found (methodOf q)) b) (accepted-again request m out known i (typeOf q) k (valuesOf q) by (sym a) w)
+    rewritten-same request m out (sym a) room (rw (request-found (methodOf q)) b) (request-again m i q k out by a w)
 
 unknown-bare : {m : List ℕ} {pl : Plan} {p q : ℕ} {vs : List (Value Part)} → BodyHere m pl p unknown vs q → noBool (kindsOf pl unknown) ≡ true
 unknown-bare header-only = refl

@@ -1,4 +1,4 @@
--- The values of the fields that have members, in the table's order; and what values say in a message.
+-- The values of the fields that have members, and of some requests, in the table's order; and what values say in a message.
 use Prim.Native.Nat.{ℕ}
 use mathlib.Core.List.{List, [], _∷_, _++_, map}
 use Rattle.layout.specs.Values.{Part, Value, number, signed, truth, run, runs}
@@ -35,7 +35,7 @@ statisticsValues s =
     ∷ number (s .namemax)
     ∷ []
 
--- the values of the requests that have most of them
+-- the values of rename, read and utimens requests, named so that contracts stay short
 module _ {A : Type 0} where
   abbrev pub renameValues : A → A → ℕ → List (Value A)
   renameValues old new flags = run old ∷ run new ∷ number flags ∷ []

@@ -1,5 +1,5 @@
-// What readers and writers share: a cursor, a part of a message, the structures that messages carry; and document 01's numbers of refusal,
-// sizes and places as constants. What the constants are called in definitions is in `layout` (Refusals, Limits, Reading, Names).
+// What readers and writers share: a cursor, a part of a message, the structures that messages carry; and the numbers of refusal, sizes
+// and places as constants. What the constants are called in definitions is in `layout` (Refusals, Limits, Reading, Names).
 ghost use Rattle.wire.specs.Runs.{partOf, Shows};
 
 // A place of a message or of a lent buffer, or a refusal, which stays. Code 0: a place. Any other code: a refusal by its number, with its
