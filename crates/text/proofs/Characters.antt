@@ -1,19 +1,18 @@
 -- Laws of the entries and of the character that a list begins with. Assumes nothing.
-use mathlib.Core.Path.{_≡_, refl, sym, ap, _∙_, subst}
-use mathlib.Core.Bool.{Bool, true, false, _&&_, _||_, and-true, and-assoc, cond}
+use mathlib.Core.Path.{_≡_, refl, sym, ap, _∙_}
+use mathlib.Core.Bool.{Bool, true, false, _&&_, _||_, cond}
 use mathlib.Core.List.{List, [], _∷_, _++_, List·Memᴰ, List·Memᴰ·head, List·Memᴰ·tail}
-use Prim.Native.Nat.{ℕ, zero, suc, _+_, _-_, _≤_, _<_}
-use native.Mathlib.Nat.{le-of-suc-le-suc, not-suc-le-zero}
+use Prim.Native.Nat.{ℕ, _+_, _-_, _≤_, _<_}
+use native.Mathlib.Nat.{le-of-suc-le-suc}
 use native.Mathlib.Omega.{arith}
-use lib.Dec.{T, leb, ltb}
-use lib.ListN.{length, getD, drop, length-drop}
-use lib.Seq.{drop-cons}
+use lib.Dec.{leb, ltb}
+use lib.ListN.{length}
 use borrow.Author.Tests.{leb-true, ltb-true}
 use Rattle.text.specs.Utf8.{Range, Entry, entries, inside, insideOne, begins, matches, size, firstSize, character}
 
 -- ---- tests
 
-never {ℓ} : {A : Type ℓ} → false ≡ true → A
+pub never {ℓ} : {A : Type ℓ} → false ≡ true → A
 never h = let z : _≡_ {A = ℕ} 0 1 = cc in let none : ⊥ = omega arith in absurd none
 
 and-left : (t u : Bool) → t && u ≡ true → t ≡ true
@@ -37,7 +36,7 @@ abbrev allApart : List Range → List Range → Bool
 allApart [] qs = true
 allApart (r ∷ rs) qs = apartFrom r qs && allApart rs qs
 
-abbrev pub excludes : Entry → List Entry → Bool
+abbrev excludes : Entry → List Entry → Bool
 excludes e [] = true
 excludes e (f ∷ fs) = allApart (e .first) (f .first) && excludes e fs
 
@@ -79,13 +78,6 @@ first-apart (r ∷ rs) qs b a h = go (inside r b) refl h (first-apart rs qs b (a
     go : (t : Bool) → inside r b ≡ t → t || insideOne rs b ≡ true → (insideOne rs b ≡ true → insideOne qs b ≡ false) → insideOne qs b ≡ false
     go true i h k = from-all r qs b (and-left (apartFrom r qs) (allApart rs qs) a) i
     go false i h k = k h
-
--- a first byte of e is a first byte of none of es
-pub excluded : (e : Entry) (es : List Entry) (b : ℕ) (s : List ℕ) → excludes e es ≡ true → insideOne (e .first) b ≡ true → firstSize es (b ∷ s) ≡ 0
-excluded e [] b s x h = refl
-excluded e (f ∷ fs) b s x h =
-    rw (first-apart (e .first) (f .first) b (and-left (allApart (e .first) (f .first)) (excludes e fs) x) h)
-    (excluded e fs b s (and-right (allApart (e .first) (f .first)) (excludes e fs) x) h)
 
 matched : (e : Entry) (b : ℕ) (s : List ℕ) → matches e (b ∷ s) ≡ true → insideOne (e .first) b ≡ true
 matched e b s h = and-left (insideOne (e .first) b) (begins (e .rest) s) h

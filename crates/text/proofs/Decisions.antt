@@ -1,63 +1,95 @@
 -- What the code's tests say of the definitions. Assumes nothing.
 use mathlib.Core.Path.{_≡_, refl, sym, ap, _∙_}
-use mathlib.Core.Bool.{Bool, true, false, _&&_, _||_, or-false, and-true, and-assoc, cond}
+use mathlib.Core.Bool.{Bool, true, false, _&&_, _||_, or-false, and-true, and-false}
 use mathlib.Core.List.{List, [], _∷_}
-use Prim.Native.Nat.{ℕ, zero, suc, _+_, _-_, _≤_, _<_}
+use mathlib.Core.Logic.{_⊎_, inl, inr}
+use Prim.Native.Nat.{ℕ, suc, _+_, _-_, _≤_, _<_}
 use native.Mathlib.Omega.{arith}
 use lib.ListN.{length, getD, drop, length-drop}
 use lib.Seq.{drop-cons, drop-drop}
 use Rattle.text.specs.Utf8.{Range, Entry, entries, inside, insideOne, begins, matches, size, firstSize, character, wellFormedEnd}
-use Rattle.text.proofs.Characters.{excludes, excluded, begins-short}
+use Rattle.text.proofs.Characters.{begins-short}
 use Rattle.text.proofs.Texts.{end-next, end-none, character-fits}
 
--- ---- the bytes behind the first: t is the test so far, and the next byte is s[at + k]
+-- ---- the test of one byte
 
-abbrev pub look : Bool → List Range → ℕ → ℕ → List ℕ → Bool
-look t [] at k s = t
-look t (r ∷ rs) at k s = look (t && inside r (getD s (at + k) 0)) rs at (k + 1) s
+-- a byte of the range stands at the place
+abbrev pub stands : Range → ℕ → List ℕ → Bool
+stands r at s = begins (r ∷ []) (drop at s)
 
-look-is : (rs : List Range) (s : List ℕ) (at k : ℕ) (t : Bool) → at + k + length rs ≤ length s → look t rs at k s ≡ t && begins rs (drop (at + k) s)
-look-is [] s at k t h = sym (and-true t)
-look-is (r ∷ rs) s at k t h =
-    let e : at + (k + 1) ≡ suc (at + k) = omega arith in
-    let g : ℕ = getD s (at + k) 0 in
-    look-is rs s at (k + 1) (t && inside r g) (omega arith)
-    ∙ and-assoc t (inside r g) (begins rs (drop (at + (k + 1)) s))
-    ∙ ap (λ (i : ℕ). t && (inside r g && begins rs (drop i s))) e
-    ∙ ap (λ (l : List ℕ). t && begins (r ∷ rs) l) (sym (drop-cons s (at + k) 0 (omega arith)))
+pub stands-inside : (r : Range) (s : List ℕ) (at : ℕ) → at < length s → stands r at s ≡ inside r (getD s at 0)
+stands-inside r s at h = rw (drop-cons s at 0 h) (and-true (inside r (getD s at 0)))
 
-module _ (r : Range) (rs : List Range) (s : List ℕ) (at n : ℕ) where
-  -- too few bytes are left
-  pub too-few : length s - at < suc (length (r ∷ rs)) → 0 ≡ cond (begins (r ∷ rs) (drop (at + 1) s)) n 0
-  too-few h =
-      let l : length (drop (at + 1) s) < length (r ∷ rs) = rw length-drop (omega arith) in
-      rw (begins-short (r ∷ rs) (drop (at + 1) s) l)
+pub stands-past : (r : Range) (s : List ℕ) (at : ℕ) → length s ≤ at → stands r at s ≡ false
+stands-past r s at h = begins-short (r ∷ []) (drop at s) (let l : length (drop at s) ≡ length s - at = length-drop at s in omega arith)
 
-  module _ (h : suc (length (r ∷ rs)) ≤ length s - at) where
-    looked : look (inside r (getD s (at + 1) 0)) rs at 2 s ≡ begins (r ∷ rs) (drop (at + 1) s)
-    looked =
-        let e : at + 2 ≡ suc (at + 1) = omega arith in
-        look-is rs s at 2 (inside r (getD s (at + 1) 0)) (omega arith)
-        ∙ rw (e, drop-cons s (at + 1) 0 (omega arith))
+-- ---- the decision on one entry, as the code has it: a test for each byte, one after the other
 
-    pub all-pass : look (inside r (getD s (at + 1) 0)) rs at 2 s ≡ true → n ≡ cond (begins (r ∷ rs) (drop (at + 1) s)) n 0
-    all-pass t = rw (sym looked ∙ t)
+-- the first byte: it is of one of the ranges
+abbrev pub firstTest : List Range → ℕ → List ℕ → Bool
+firstTest [] at s = false
+firstTest (r ∷ []) at s = stands r at s
+firstTest (r ∷ q ∷ rs) at s = stands r at s || firstTest (q ∷ rs) at s
 
-    pub one-fails : look (inside r (getD s (at + 1) 0)) rs at 2 s ≡ false → 0 ≡ cond (begins (r ∷ rs) (drop (at + 1) s)) n 0
-    one-fails t = rw (sym looked ∙ t)
+-- the bytes from the k-th behind it on
+abbrev pub laterTests : List Range → ℕ → ℕ → List ℕ → Bool
+laterTests [] at k s = true
+laterTests (r ∷ rs) at k s = stands r (at + k) s && laterTests rs at (k + 1) s
 
--- ---- the first byte chooses the entry
+abbrev pub decision : Entry → ℕ → List ℕ → Bool
+decision e at s = firstTest (e .first) at s && laterTests (e .rest) at 1 s
 
--- the test of the first byte as the code has it
-abbrev pub test : List Range → ℕ → Bool
-test [] b = false
-test (r ∷ []) b = inside r b
-test (r ∷ q ∷ rs) b = inside r b || test (q ∷ rs) b
+begins-apart : (r : Range) (rs : List Range) (s : List ℕ) → begins (r ∷ []) s && begins rs (drop 1 s) ≡ begins (r ∷ rs) s
+begins-apart r rs [] = refl
+begins-apart r rs (b ∷ s) = ap (λ (t : Bool). t && begins rs s) (and-true (inside r b))
 
-test-is : (rs : List Range) (b : ℕ) → insideOne rs b ≡ test rs b
-test-is [] b = refl
-test-is (r ∷ []) b = or-false (inside r b)
-test-is (r ∷ q ∷ rs) b = ap (λ (t : Bool). inside r b || t) (test-is (q ∷ rs) b)
+later-is : (rs : List Range) (s : List ℕ) (at k : ℕ) → laterTests rs at k s ≡ begins rs (drop (at + k) s)
+later-is [] s at k = refl
+later-is (r ∷ rs) s at k =
+    let e : at + (k + 1) ≡ at + k + 1 = omega arith in
+    ap (λ (t : Bool). stands r (at + k) s && t) (later-is rs s at (k + 1))
+    ∙ rw (e, ← drop-drop 1 (at + k) s) (begins-apart r rs (drop (at + k) s))
+
+first-is : (rs : List Range) (s : List ℕ) (at : ℕ) → at < length s → firstTest rs at s ≡ insideOne rs (getD s at 0)
+first-is [] s at h = refl
+first-is (r ∷ []) s at h = stands-inside r s at h ∙ sym (or-false (inside r (getD s at 0)))
+first-is (r ∷ q ∷ rs) s at h = rw (stands-inside r s at h, first-is (q ∷ rs) s at h)
+
+-- it tells whether a character of the entry begins at the place
+decision-is : (e : Entry) (s : List ℕ) (at : ℕ) → at < length s → decision e at s ≡ matches e (drop at s)
+decision-is e s at h =
+    let i : at + 1 ≡ suc at = omega arith in
+    rw (first-is (e .first) s at h, later-is (e .rest) s at 1, drop-cons s at 0 h, i)
+
+-- of two tests, the second is made where the first fails; f is what they come to
+pub either : {A B : Type 0} {t u f : Bool} → (A → (t ≡ true) × (f ≡ true)) → (B → (t ≡ false) × (f ≡ u)) → A ⊎ B → t || u ≡ f
+either g h (inl a) = rw (g a .0) (sym (g a .1))
+either g h (inr b) = rw (h b .0) (sym (h b .1))
+
+-- each of several tests holds
+pub both : {t u : Bool} → t ≡ true → u ≡ true → t && u ≡ true
+both e f = rw (e, f)
+
+-- or one of them fails, and those behind it, r, are not made: the first
+pub one-fails : {t : Bool} → t ≡ false → (r : Bool) → t && r ≡ false
+one-fails e r = rw e
+
+-- or one of the first two, three, four
+module _ {A B : Type 0} {t u : Bool} (first : A → t ≡ false) (second : B → u ≡ false) where
+  pub two-fail : (r : Bool) → B ⊎ A → t && (u && r) ≡ false
+  two-fail r (inl b) = rw (second b) (and-false t)
+  two-fail r (inr a) = rw (first a)
+
+  module _ {C : Type 0} {v : Bool} (third : C → v ≡ false) where
+    pub three-fail : (r : Bool) → C ⊎ (B ⊎ A) → t && (u && (v && r)) ≡ false
+    three-fail r (inl c) = rw (third c, and-false u) (and-false t)
+    three-fail r (inr w) = two-fail (v && r) w
+
+    pub four-fail : {D : Type 0} {w : Bool} (fourth : D → w ≡ false) (r : Bool) → D ⊎ (C ⊎ (B ⊎ A)) → t && (u && (v && (w && r))) ≡ false
+    four-fail {w} fourth r (inl d) = rw (fourth d, and-false v, and-false u) (and-false t)
+    four-fail {w} fourth r (inr x) = three-fail (w && r) x
+
+-- ---- the entries one after the other, until a decision is taken
 
 -- the entries that are left for the character at a place
 pub record Left (es : List Entry) (s : List ℕ) (at : ℕ) : Type 0 where
@@ -69,27 +101,17 @@ unfolding character
 all-left s at h = record { inside-list = h; is = refl }
 
 module _ {e : Entry} {es : List Entry} {s : List ℕ} {at : ℕ} (l : Left (e ∷ es) s at) where
-  first-decides : firstSize (e ∷ es) (drop at s)
-      ≡ cond (insideOne (e .first) (getD s at 0) && begins (e .rest) (drop (at + 1) s)) (size e) (firstSize es (getD s at 0 ∷ drop (at + 1) s))
-  first-decides =
-      let e : at + 1 ≡ suc at = omega arith in
-      rw (drop-cons s at 0 (l .inside-list), e)
+  -- the test of the first byte
+  abbrev pub firstOf : Bool
+  firstOf = firstTest (e .first) at s
 
   -- it is none of this entry
-  pub passed : test (e .first) (getD s at 0) ≡ false → Left es s at
-  passed t = record {
-    inside-list = l .inside-list;
-    is =
-        l .is ∙ first-decides
-        ∙ rw (test-is (e .first) (getD s at 0) ∙ t) (let i : at + 1 ≡ suc at = omega arith in rw (drop-cons s at 0 (l .inside-list), i));
-  }
+  pub passed : decision e at s ≡ false → Left es s at
+  passed t = record { inside-list = l .inside-list; is = l .is ∙ rw (sym (decision-is e s at (l .inside-list)) ∙ t) }
 
-  -- it is one of this entry, or none at all
-  pub chosen : excludes e es ≡ true → test (e .first) (getD s at 0) ≡ true
-      → {n : ℕ} → n ≡ cond (begins (e .rest) (drop (at + 1) s)) (size e) 0 → n ≡ character (drop at s)
-  chosen x t {n} r =
-      let i : insideOne (e .first) (getD s at 0) ≡ true = test-is (e .first) (getD s at 0) ∙ t in
-      r ∙ sym (l .is ∙ first-decides ∙ rw (i, excluded e es (getD s at 0) (drop (at + 1) s) x i))
+  -- it is one of this entry
+  pub chosen : decision e at s ≡ true → size e ≡ character (drop at s)
+  chosen t = sym (l .is ∙ rw (sym (decision-is e s at (l .inside-list)) ∙ t))
 
 -- no entry is left
 pub none-left : {s : List ℕ} {at : ℕ} → Left [] s at → 0 ≡ character (drop at s)

@@ -1,15 +1,14 @@
 -- Laws of well-formed text and of its end. Assumes nothing.
 use mathlib.Core.Path.{_≡_, refl, sym, ap, _∙_, subst}
-use mathlib.Core.Bool.{Bool, true, false, cond}
+use mathlib.Core.Bool.{true}
 use mathlib.Core.List.{List, [], _∷_, _++_, append-assoc, append-nil, List·Memᴰ}
 use mathlib.Core.Logic.{_↔_}
 use Prim.Native.Nat.{ℕ, zero, suc, _+_, _-_, _≤_, _<_}
 use native.Mathlib.Decide.{decLt}
 use native.Mathlib.Nat.{add-zero, le-refl, le-of-suc-le-suc}
 use native.Mathlib.Omega.{arith}
-use lib.Dec.{eqb}
 use lib.ListN.{length, take, drop, length-drop, length-append, take-append-drop}
-use lib.Seq.{drop-at, drop-drop, length-take-le, take-add, take-length}
+use lib.Seq.{drop-at, length-take-le, take-add, take-length}
 use borrow.Author.Tests.{eq-eqb, ne-eqb, eqb-true}
 use Rattle.text.specs.Utf8.{Entry, entries, matches, size, character, endAfter, wellFormedEnd, wellFormed, WellFormed, empty, more}
 use Rattle.text.proofs.Characters.{Begun, character-found, character-begun, matches-append, matches-long}
