@@ -22,8 +22,8 @@
 extern "C" {
 #endif
 
-/* The version of the functions below, their arguments, the cells and the words of a table. */
-#define TUSHALETS_VERSION 1
+/* The version of the functions below, their arguments and answers, the cells and the words of a table. */
+#define TUSHALETS_VERSION 2
 
 /* Bytes of the longest message, and bytes that hold every listing. */
 #define TUSHALETS_LONGEST 65536
@@ -67,7 +67,8 @@ enum {
     TUSHALETS_OVERSIZE = 2,             /* more than TUSHALETS_LONGEST bytes, read or to be written */
     TUSHALETS_UNEXPECTED_TYPE = 3,      /* a type that such a message does not have, or that cannot be entered */
     TUSHALETS_TRUNCATED = 4,            /* a number or bytes of a declared length do not fit into the message */
-    TUSHALETS_MALFORMED_TEXT = 5,       /* a string is no well-formed UTF-8 */
+    TUSHALETS_MALFORMED_TEXT = 5,       /* a string is no well-formed UTF-8; in reading, the place is where its first
+                                         * broken character begins */
     TUSHALETS_DATA_LENGTH_MISMATCH = 6, /* the result of a read reply is not the length of its data */
     TUSHALETS_BUFFER_TOO_SMALL = 7,     /* `out` is shorter than what is to be stored */
     TUSHALETS_RESULT_SIGN = 8,          /* a success with a negative result, or a failure without one */

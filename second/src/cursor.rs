@@ -4,7 +4,7 @@ use crate::methods::{Field, Kind};
 use crate::refusal::{
     refuse, Refusal, HEADER_SIZE, LONGEST, MALFORMED_TEXT, OVERSIZE, TRUNCATED, TRUNCATED_HEADER,
 };
-use crate::text::well_formed;
+use crate::text::well_formed_end;
 use crate::value::{Part, Value};
 
 /// Refuses a message that is too short or too long to be looked at.
@@ -54,10 +54,13 @@ impl<'a> Cursor<'a> {
         self.run(length)
     }
 
+    /// A malformed text is refused where its longest well-formed beginning
+    /// ends. Only the string's own bytes count.
     pub fn text(&mut self) -> Result<Part<'a>, Refusal> {
         let part = self.data()?;
-        if !well_formed(part.bytes) {
-            return refuse(MALFORMED_TEXT, part.start);
+        let end = well_formed_end(part.bytes);
+        if end < part.bytes.len() {
+            return refuse(MALFORMED_TEXT, part.start + end);
         }
         Ok(part)
     }

@@ -2,19 +2,22 @@
 
 /// Whether the bytes are a sequence of whole characters.
 pub fn well_formed(bytes: &[u8]) -> bool {
-    let mut rest = bytes;
-    while !rest.is_empty() {
-        match character(rest) {
-            Some(length) => rest = &rest[length..],
-            None => return false,
-        }
+    well_formed_end(bytes) == bytes.len()
+}
+
+/// Where the longest well-formed beginning ends: where the first character
+/// begins that is not whole, or behind the last byte.
+pub fn well_formed_end(bytes: &[u8]) -> usize {
+    let mut end = 0;
+    while let Some(length) = character(&bytes[end..]) {
+        end += length;
     }
-    true
+    end
 }
 
 /// The length of the character that the bytes begin with, if it is whole.
 fn character(bytes: &[u8]) -> Option<usize> {
-    let (length, second) = match bytes[0] {
+    let (length, second) = match bytes.first()? {
         0x00..=0x7f => return Some(1),
         0xc2..=0xdf => (2, 0x80..=0xbf),
         0xe0 => (3, 0xa0..=0xbf),

@@ -1,15 +1,15 @@
 //! The cases and answers of the ops `s` and `o` that the small program is tested
-//! with are those that this program makes: `second make 1 900 so`, and `second answer`.
+//! with are those that this program makes: `second make 1 960 so`, and `second answer`.
 
 use std::fs;
 use std::path::{Path, PathBuf};
 
 use second::answer::answer_all;
 use second::make::case::Case;
-use second::make::Cases;
+use second::make::{fixed_list, Cases};
 
 const SEED: u64 = 1;
-const COUNT: usize = 900;
+const COUNT: usize = 960;
 
 /// The small program takes no more than this, and its memory for a body is more.
 const MOST_BYTES: usize = 140_000;
@@ -34,6 +34,11 @@ fn committed_cases_and_answers_are_made_here() {
     let mut answers = Vec::new();
     answer_all(&cases[..], &mut answers).unwrap();
     assert!(fs::read(committed("stdout")).unwrap() == answers, "the answers are to be made anew");
+}
+
+#[test]
+fn committed_cases_have_the_fixed_list_and_more() {
+    assert!(fixed_list("so").len() < COUNT);
 }
 
 #[test]

@@ -11,7 +11,7 @@ fn framed(seed: u64, count: usize) -> Vec<u8> {
 }
 
 /// The fixed list and many cases behind it.
-const COUNT: usize = 15_000;
+const COUNT: usize = 17_000;
 
 #[test]
 fn every_case_has_one_line() {

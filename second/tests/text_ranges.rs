@@ -1,9 +1,13 @@
 //! Well-formed text, compared with the check of the standard library.
 
-use second::text::well_formed;
+use second::text::{well_formed, well_formed_end};
 
 fn same(bytes: &[u8]) {
-    assert_eq!(well_formed(bytes), std::str::from_utf8(bytes).is_ok(), "{bytes:02x?}");
+    let (good, end) = match std::str::from_utf8(bytes) {
+        Ok(text) => (true, text.len()),
+        Err(error) => (false, error.valid_up_to()),
+    };
+    assert_eq!((well_formed(bytes), well_formed_end(bytes)), (good, end), "{bytes:02x?}");
 }
 
 #[test]
@@ -45,6 +49,7 @@ fn characters_at_every_place() {
             for end in 0..=bytes.len() {
                 same(&bytes[..end]);
                 same(&[&bytes[..end], b"z"].concat());
+                same(&[&bytes[..end], text.as_bytes()].concat());
             }
         }
     }

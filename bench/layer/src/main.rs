@@ -10,13 +10,16 @@ mod timing;
 use common::{Random, PADDING, SEED};
 use messages::ID;
 use std::hint::black_box;
-use timing::{row, title};
+use timing::{row, title, title_of};
 use tushalets::{NameRun, Received, Refusal, Reply, Request, Success, LONGEST};
 
 /// The data of the read replies, and the names of the two directories.
 const DATA: [u8; 4096] = [0x7f; 4096];
 const SHORT_NAME: usize = 8;
 const LONG_NAME: usize = 255;
+
+/// The length of the path that is read as good and as bad text.
+const LONG_PATH: usize = 4_000;
 
 fn main() {
     tushalets::check_version().expect("the library fits");
@@ -35,12 +38,32 @@ fn main() {
     time_write_reply("write getattr reply", &messages::GETATTR_REPLY);
     time_write_reply("write read reply of 4,096", &messages::read_reply(&DATA));
     time_front("front, good getattr request", &messages::GETATTR);
+    time_bad_paths();
+}
+
+/// A long path: read against the ordinary program, then the bad ones against the good one, both by the proved reader.
+fn time_bad_paths() {
+    let good = messages::long_path(LONG_PATH, None);
+    time_read_message("path of 4,000, good", &good);
+    let bad = [("first", 0), ("middle", LONG_PATH / 2), ("last", LONG_PATH - 1)]
+        .map(|(name, place)| (name, messages::long_path(LONG_PATH, Some(place))));
+    for (name, message) in &bad {
+        time_read_message(&format!("path of 4,000, {name} byte bad"), message);
+    }
+    title_of("proved, a bad path against a good one", ["good ns", "bad ns"]);
+    for (name, message) in &bad {
+        let read = |message| tushalets::read_request(black_box(message));
+        row(&format!("path of 4,000, {name} byte bad"), || read(message), || read(&good));
+    }
 }
 
 fn time_read_request(name: &str, request: &Request<'_>) {
-    let message = messages::request(request);
-    agreement::compare_message(&message, &mut Random(SEED));
-    row(name, || tushalets::read_request(black_box(&message)), || ordinary::read_request(black_box(&message)));
+    time_read_message(name, &messages::request(request));
+}
+
+fn time_read_message(name: &str, message: &[u8]) {
+    agreement::compare_message(message, &mut Random(SEED));
+    row(name, || tushalets::read_request(black_box(message)), || ordinary::read_request(black_box(message)));
 }
 
 fn time_read_reply(name: &str, message: &[u8]) {

@@ -15,6 +15,10 @@ const TIME: Timestamp = Timestamp { seconds: 1_700_000_000, nsec: 999_999_999 };
 const BEFORE_NAMES: usize = 13;
 const LENGTH_SIZE: usize = 4;
 
+/// Bytes of the header and of the length of a path, and a byte that no character begins with.
+const BEFORE_PATH: usize = 9;
+const NO_CHARACTER: u8 = 0x80;
+
 pub const ACCESS: Request<'_> = Request::Access { path: PATH, mode: 4 };
 pub const GETATTR: Request<'_> = Request::Getattr { path: PATH };
 pub const RENAME: Request<'_> = Request::Rename { old_path: PATH, new_path: PATH, flags: 1 };
@@ -42,6 +46,15 @@ pub const GETATTR_REPLY: Reply<'_, NameRun<'_>> = Reply::Success { result: 0, su
 /// A successful read.
 pub fn read_reply(data: &[u8]) -> Reply<'_, NameRun<'_>> {
     Reply::Success { result: data.len() as i32, success: Success::Read { data } }
+}
+
+/// A getattr request with an ASCII path of `len` bytes. One of them, if it is named, begins no character.
+pub fn long_path(len: usize, bad: Option<usize>) -> Vec<u8> {
+    let mut message = request(&Request::Getattr { path: &"/a-path-of-letters".repeat(len)[..len] });
+    if let Some(place) = bad {
+        message[BEFORE_PATH + place] = NO_CHARACTER;
+    }
+    message
 }
 
 /// A readdir reply with as many names of `len` bytes as the longest message holds.

@@ -7,8 +7,13 @@ const LEAST_NANOSECONDS: f64 = 100_000.0;
 
 /// Prints what is timed, and the heads of the columns.
 pub fn title(name: &str) {
+    title_of(name, ["ordinary ns", "proved ns"]);
+}
+
+/// The same with other heads: of what is divided by, and of what is divided.
+pub fn title_of(name: &str, [theirs, ours]: [&str; 2]) {
     println!("{name}");
-    println!("{:<32} {:>12} {:>12} {:>7}", "", "ordinary ns", "proved ns", "ratio");
+    println!("{:<32} {theirs:>12} {ours:>12} {:>7}", "", "ratio");
 }
 
 /// Times both sides in turns, and prints the medians and their ratio.

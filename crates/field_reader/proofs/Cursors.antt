@@ -13,7 +13,7 @@ use Rattle.text.specs.Utf8.{wellFormedEnd, wellFormed}
 use Rattle.layout.specs.Refusals.{truncated, malformedText}
 use Rattle.layout.specs.Kinds.{Kind}
 use Rattle.layout.specs.Values.{Part, part, Value}
-use Rattle.layout.specs.Reading.{Outcome, got, fail, Reader, followed, seq, give, mapped, numOutcome, numAt, runAt, fieldAt, fieldsAt}
+use Rattle.layout.specs.Reading.{Outcome, got, fail, Reader, followed, seq, give, mapped, numOutcome, numAt, malformedPlace, runAt, fieldAt, fieldsAt}
 use Rattle.layout.proofs.Tests.{apart}
 use Rattle.wire.specs.declared.Cursor.{Cursor}
 use Rattle.wire.specs.Cursors.{place, refusalAt}
@@ -89,9 +89,11 @@ module _ (valid : List ℕ → Bool) (n : ℕ) {m : List ℕ} (c : Cursor) (h : 
   unfolding runAt
   run-truncated x l = refused-there c (runAt valid n) x (refusalAt truncated (c .at)) h (rw (lt-leb (c .at + n) (length m) l))
 
-  pub run-malformed : (x : Part) → c .at + n ≤ length m → valid (take n (drop (c .at) m)) ≡ false → Ended m c (runAt valid n) x x (refusalAt malformedText (c .at))
+  pub run-malformed : (x : Part) → c .at + n ≤ length m → valid (take n (drop (c .at) m)) ≡ false
+      → Ended m c (runAt valid n) x x (refusalAt malformedText (malformedPlace n m (c .at)))
   unfolding runAt
-  run-malformed x l e = refused-there c (runAt valid n) x (refusalAt malformedText (c .at)) h (rw (le-leb (c .at + n) (length m) l, e))
+  run-malformed x l e =
+      refused-there c (runAt valid n) x (refusalAt malformedText (malformedPlace n m (c .at))) h (rw (le-leb (c .at + n) (length m) l, e))
 
   pub run-whole : (x : Part) → c .at + n ≤ length m → valid (take n (drop (c .at) m)) ≡ true
       → Ended m c (runAt valid n) x (part (c .at) n) (place (c .at + n))
@@ -113,3 +115,7 @@ module _ (m : List ℕ) (p n : ℕ) {e : ℕ} (l : p + n ≤ length m) (is : e �
   pub text-wrong : (e ≡ n → ⊥) → wellFormed (take n (drop p m)) ≡ false
   unfolding wellFormed
   text-wrong t = rw (size, ← same-end) (ne-eqb e n t)
+
+  -- and then it breaks at that end
+  pub text-breaks : p + e ≡ malformedPlace n m p
+  text-breaks = ap (λ (k : ℕ). p + k) same-end

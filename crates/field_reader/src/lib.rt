@@ -339,7 +339,7 @@ pub fn statistics_at(m: &[u8], c: Cursor) -> StatisticsField
 }
 
 // A run of `len` bytes, well-formed where it is text. The comparison is by subtraction: the place and the length are not added
-// before it is known that the run fits.
+// before it is known that the run fits. Malformed text is refused where its longest well-formed beginning ends.
 fn run_at(m: &[u8], c: Cursor, len: u32, text: bool) -> RunField
     ensures { λ r. ⌜ Ended (now (m .entry)) c (runAt (validBy text) len) (part 0 0) (partOf (r .value)) (r .next) ⌝ }
 {
@@ -364,10 +364,11 @@ fn run_at(m: &[u8], c: Cursor, len: u32, text: bool) -> RunField
     }
     let end = start + len;
     if text {
-        if text::well_formed_end(&m[start..end]) != len {
+        let well_formed = text::well_formed_end(&m[start..end]);
+        if well_formed != len {
             return stopped(Cursor {
                 code: Refusal::MALFORMED_TEXT,
-                at: start,
+                at: start + well_formed,
             });
         }
     }
@@ -390,7 +391,8 @@ fn stopped(c: Cursor) -> RunField
     }
 }
 
-// A string: its length u32, then so many bytes of well-formed text. Refuses 4, 5.
+// A string: its length u32, then so many bytes of well-formed text. Refuses 4, and 5 where the first broken
+// character begins.
 pub fn string_at(m: &[u8], c: Cursor) -> RunField
     ensures { λ r. ⌜ Took (now (m .entry)) c string (run·of (partOf (r .value))) (r .next) ⌝ }
 {

@@ -59,7 +59,7 @@ module _ (m : List ℕ) (j : ℕ) where
   unfolding numAt numberAt
   num-cut w p h = rw (too-few p w h)
 
-  run-cut : (valid : List ℕ → Bool) (n p : ℕ) → j < p + n → runAt valid n (take j m) p ≡ fail truncated p
+  pub run-cut : (valid : List ℕ → Bool) (n p : ℕ) → j < p + n → runAt valid n (take j m) p ≡ fail truncated p
   unfolding runAt
   run-cut valid n p h = rw (too-few p n h)
 

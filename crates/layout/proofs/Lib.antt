@@ -1,4 +1,5 @@
 pub mod Agreement
+pub mod Breaking
 pub mod Cuts
 pub mod Demand3Holds
 pub mod Fronting

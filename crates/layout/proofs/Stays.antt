@@ -34,7 +34,7 @@ module _ {m m′ : List ℕ} where
   sized-stays {valid} (sized-here {p = p} {n = n} h r) a =
       sized-here (num-stays h (agree-less (omega arith) a)) (record { fits = a .fits; good = ap valid (sym (same-part (p + 4) n a)) ∙ r .good })
 
-  strings-stay : {n p q : ℕ} {xs : List Part} → StringsHere m n p xs q → Agree q m m′ → StringsHere m′ n p xs q
+  pub strings-stay : {n p q : ℕ} {xs : List Part} → StringsHere m n p xs q → Agree q m m′ → StringsHere m′ n p xs q
   strings-stay no-string a = no-string
   strings-stay (a-string-more h t) a = a-string-more (sized-stays h (agree-less (omega (arith, strings-size t)) a)) (strings-stay t a)
 

@@ -14,8 +14,7 @@ use Rattle.number.specs.TwosComplement.{signedOf}
 use Rattle.text.specs.Utf8.{wellFormed}
 use Rattle.layout.proofs.Tests.{apart}
 use Rattle.layout.specs.Kinds.{Num, width, Kind, num, string, bytes, strings}
-use Rattle.layout.specs.Refusals
-use Rattle.layout.specs.Refusals.{malformedText, dataLengthMismatch}
+use Rattle.layout.specs.Refusals.{dataLengthMismatch}
 use Rattle.layout.specs.Limits.{headerSize, longest}
 use Rattle.layout.specs.Table.{Side, Plan, unexpected, header, asked, plain, led, plan}
 use Rattle.layout.specs.Values.{Part, part, Value, signed, run, runs}
@@ -164,7 +163,7 @@ counted m true r ws p e =
     (eqb-true r (dataSize ws) (h .0), b .0, b .1, b .2)
 
 module _ {m : List ℕ} where
-  num-traced : {w p n q : ℕ} → numAt w m p ≡ got n q → NumHere w m p n × (q ≡ p + w)
+  pub num-traced : {w p n q : ℕ} → numAt w m p ≡ got n q → NumHere w m p n × (q ≡ p + w)
   unfolding numAt numberAt
   num-traced {w} {p} {n} {q} e = go (leb (p + w) (length m)) refl e
     where
@@ -177,8 +176,8 @@ module _ {m : List ℕ} where
       → RunHere valid m p n × (x ≡ part p n) × (q ≡ p + n)
   unfolding runAt
   run-traced {valid} {n} {p} e =
-      let h = passed (leb (p + n) (length m)) (cond (valid (take n (drop p m))) (got (part p n) (p + n)) (fail malformedText p)) Refusals.truncated p e in
-      let g = passed (valid (take n (drop p m))) (got (part p n) (p + n)) malformedText p (h .1) in
+      let h = passed (leb (p + n) (length m)) _ _ _ e in
+      let g = passed (valid (take n (drop p m))) _ _ _ (h .1) in
       (record { fits = leb-true (p + n) (length m) (h .0); good = g .0 }, cc (g .1), cc (g .1))
 
   pub sized-traced : {valid : List ℕ → Bool} {p : ℕ} {x : Part} {q : ℕ} → sizedAt valid m p ≡ got x q → SizedHere valid m p x × (q ≡ p + 4 + x .size)
@@ -205,7 +204,7 @@ module _ {m : List ℕ} where
       from : {x : Part} {ys : List Part} {r : ℕ} → SizedHere wellFormed m p x → r ≡ p + 4 + x .size → StringsHere m n r ys q → xs ≡ x ∷ ys → StringsHere m (suc n) p xs q
       from h at t is = rw is (a-string-more h (rw at at t))
 
-  field-traced : (k : Kind) (p : ℕ) {v : Value Part} {q : ℕ} → fieldAt k m p ≡ got v q → FieldHere m k p v q
+  pub field-traced : (k : Kind) (p : ℕ) {v : Value Part} {q : ℕ} → fieldAt k m p ≡ got v q → FieldHere m k p v q
   field-traced (num k) p {v} {q} e =
       let g = unmapped (valueOf k) (numAt (width k) m p) e in
       let a = num-traced (g .first) in

@@ -3,6 +3,7 @@ pub mod Front
 pub mod Isolation
 pub mod Kinds
 pub mod Limits
+pub mod MalformedText
 pub mod Names
 pub mod Normal
 pub mod Parts

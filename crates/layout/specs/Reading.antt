@@ -7,7 +7,7 @@ use lib.IntN.{ℤ, pos, negsuc}
 use lib.ListN.{length, take, drop}
 use Rattle.number.specs.BigEndian.{Found, whole, truncated as too-few, numberAt}
 use Rattle.number.specs.TwosComplement.{signedOf}
-use Rattle.text.specs.Utf8.{wellFormed}
+use Rattle.text.specs.Utf8.{wellFormedEnd, wellFormed}
 use Rattle.layout.specs.Kinds.{Num, u8, i8, u32, i32, u64, bool, width, Kind, num, string, bytes, strings}
 use Rattle.layout.specs.Refusals.{truncatedHeader, oversize, unexpectedType, truncated, malformedText, dataLengthMismatch}
 use Rattle.layout.specs.Limits.{headerSize, longest}
@@ -44,11 +44,15 @@ numOutcome w p too-few = fail truncated p
 unfoldable pub numAt : ℕ → Reader ℕ
 numAt w m p = numOutcome w p (numberAt w m p)
 
--- a run of n bytes, refused where it begins if it does not fit, and then if its bytes are not valid
+-- where the n bytes at p are no longer well-formed text: behind the whole characters that they begin with (document 02, Item 2)
+abbrev pub malformedPlace : ℕ → List ℕ → ℕ → ℕ
+malformedPlace n m p = p + wellFormedEnd (take n (drop p m))
+
+-- a run of n bytes, refused where it begins if it does not fit, and then, if its bytes are not valid, as those of text may be, where they break
 unfoldable pub runAt : (List ℕ → Bool) → ℕ → Reader Part
 runAt valid n m p =
     cond (leb (p + n) (length m))
-    (cond (valid (take n (drop p m))) (got (part p n) (p + n)) (fail malformedText p))
+    (cond (valid (take n (drop p m))) (got (part p n) (p + n)) (fail malformedText (malformedPlace n m p)))
     (fail truncated p)
 
 -- a length, then so many bytes

@@ -3,6 +3,7 @@ use mathlib.Core.Path.{_≡_, refl, ap, _∙_}
 use mathlib.Core.Bool.{Bool, true, false, cond}
 use mathlib.Core.List.{List, [], _∷_}
 use Prim.Native.Nat.{ℕ, zero, suc, _+_, _≤_}
+use native.Mathlib.Nat.{le-trans}
 use native.Mathlib.Omega.{arith}
 use lib.Dec.{leb, ltb, lit≤}
 use lib.ListN.{length, take, drop}
@@ -15,7 +16,8 @@ use Rattle.layout.specs.Table.{request, row, requestPlan, plan}
 use Rattle.layout.specs.Values.{part, run, runs}
 use Rattle.layout.specs.Refusals.{truncated, malformedText}
 use Rattle.layout.specs.Limits.{headerSize, longest}
-use Rattle.layout.specs.Reading.{Outcome, got, fail, Reader, followed, mapped, numOutcome, numAt, runAt, sizedAt, stringAt, anyBytes, stringsAt, valueOf, fieldAt, fieldsAt, known, Body, body, bodyAt, Message, message, messageAt, Answer, refused, accepted, answer, read}
+use Rattle.layout.specs.Reading.{Outcome, got, fail, Reader, followed, mapped, numOutcome, numAt, malformedPlace, runAt, sizedAt, stringAt, anyBytes, stringsAt, valueOf, fieldAt, fieldsAt, known, Body, body, bodyAt, Message, message, messageAt, Answer, refused, accepted, answer, read}
+use Rattle.layout.proofs.Breaking.{malformed-inside}
 
 module _ (m : List ℕ) where
   data Inside {A : Type 0} : Outcome A → Type 0 where
@@ -41,9 +43,9 @@ module _ (m : List ℕ) where
   unfolding runAt
   run-inside valid n p h = go (leb (p + n) (length m)) (valid (take n (drop p m))) refl
     where
-      go : (t u : Bool) → leb (p + n) (length m) ≡ t → Inside (cond t (cond u (got (part p n) (p + n)) (fail malformedText p)) (fail truncated p))
+      go : (t u : Bool) → leb (p + n) (length m) ≡ t → Inside (cond t (cond u (got (part p n) (p + n)) (fail malformedText (malformedPlace n m p))) (fail truncated p))
       go true true e = got-inside (leb-true (p + n) (length m) e)
-      go true false e = fail-inside (lit≤ tt) h
+      go true false e = let l : p + n ≤ length m = leb-true (p + n) (length m) e in fail-inside (lit≤ tt) (le-trans (malformed-inside n m p l) l)
       go false u e = fail-inside (lit≤ tt) h
 
   sized-inside : (valid : List ℕ → Bool) (p : ℕ) → p ≤ length m → Inside (sizedAt valid m p)

@@ -93,7 +93,7 @@ pub mod refusals {
     pub const UNEXPECTED_TYPE: u8 = 3;
     /// A number, or a run of declared length, does not fit (short).
     pub const TRUNCATED: u8 = 4;
-    /// A string is not well-formed UTF-8 (text).
+    /// A string is not well-formed UTF-8 (text). In reading, the place is where its first broken character begins.
     pub const MALFORMED_TEXT: u8 = 5;
     /// The result of a read reply is not the length of its data (tally).
     pub const DATA_LENGTH_MISMATCH: u8 = 6;

@@ -14,6 +14,10 @@ use core::fmt;
 /// assert_eq!((refusal.number, refusal.place), (refusals::TRUNCATED, 9));
 /// assert_eq!(refusal.name(), "truncated");
 /// assert_eq!(refusal.to_string(), "refused 4 at 9: truncated");
+///
+/// // Of malformed text the place is where the first broken character begins: `caf` is well-formed, `\xe9` alone is not.
+/// let message = *b"\0\0\0\x05\x0f\0\0\0\x04caf\xe9";
+/// assert_eq!(tushalets::read_request(&message).unwrap_err().to_string(), "refused 5 at 12: malformed text");
 /// ```
 #[derive(Clone, Copy, Debug, PartialEq, Eq, Hash)]
 pub struct Refusal {

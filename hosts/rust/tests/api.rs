@@ -366,7 +366,7 @@ fn the_linked_version_fits() {
     assert_eq!(check_version(), Ok(()));
     assert_eq!(tushalets::raw::version(), VERSION);
     let wrong = WrongVersion { linked: 9 };
-    assert_eq!(wrong.to_string(), "the linked library has version 9, this crate is written for 1");
+    assert_eq!(wrong.to_string(), "the linked library has version 9, this crate is written for 2");
 }
 
 #[test]

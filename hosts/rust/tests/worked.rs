@@ -11,7 +11,7 @@ use tushalets::{front, list_request, raw, Fronted, LONGEST, LONGEST_LISTING};
 /// A label, and a message in hex.
 type Row = (&'static str, &'static str);
 
-const REQUESTS: [Row; 22] = [
+const REQUESTS: [Row; 26] = [
     ("empty", ""),
     ("four bytes", "00000001"),
     ("getattr", "00000001 02 00000001 2f"),
@@ -34,6 +34,10 @@ const REQUESTS: [Row; 22] = [
     ("text eda080", "00000001 0f 00000003 eda080"),
     ("text f4908080", "00000001 0f 00000004 f4908080"),
     ("text c080", "00000001 0f 00000002 c080"),
+    ("unlink, broken behind a letter", "00000001 0f 00000004 61e28241"),
+    ("access, broken off, its other byte behind", "00000001 01 00000003 6162c3 a9"),
+    ("rename, second text broken behind é", "00000001 06 00000000 00000004 c3a9c328 00"),
+    ("link, both texts bad", "00000001 05 00000002 61ff 00000001 80"),
 ];
 
 /// The page's readdir reply.
@@ -43,7 +47,7 @@ const NAMES_OF_THE_PAGE: &str = "00000002 93 00000000 00000003 00000003 666f6f 0
 const GETATTR_OF_THE_PAGE: &str = "00000001 82 00000000 0000000000000001 0000000000000002 000041a4 000003e8 000003e8 \
     0000000000000000 0000000000000000 0000000000000000 0000000000 0000000000000000 0000000000 0000000000000000 0000000000";
 
-const REPLIES: [Row; 19] = [
+const REPLIES: [Row; 22] = [
     ("failure -2", "00000001 82 fffffffe"),
     ("failure, least result", "00000001 82 80000000 00"),
     ("getattr without attributes", "00000001 82 00000000"),
@@ -67,6 +71,9 @@ const REPLIES: [Row; 19] = [
     ("getcreds, -22 is a length", "00000001 97 ffffffea"),
     ("readlink", "00000001 83 00000000 00000001 2f"),
     ("open", "00000001 8b 00000000 ffffffffffffffff"),
+    ("readlink, broken behind €", "00000001 83 00000000 00000004 e282ac80"),
+    ("getcreds, broken behind é", "00000001 97 00000004 c3a9ff61"),
+    ("readdir, second name bad", "00000002 93 00000000 00000002 00000003 666f6f 00000003 62ff72"),
 ];
 
 /// A label, a message, and how many steps are taken.
@@ -91,7 +98,7 @@ const FRONTS: [Row; 6] = [
 /// The sizes of the buffers that are lent to the front.
 const ROOMS: [usize; 6] = [0, 4, 5, 8, 9, 12];
 
-const LISTINGS: [&str; 8] = [
+const LISTINGS: [&str; 9] = [
     "00000007 01 00000002 2f61 04",
     "00000007 01 00000000 ff",
     "00000001 0a 00000001 2f 07 ffffffffffffffff 0a",
@@ -99,6 +106,7 @@ const LISTINGS: [&str; 8] = [
     "ffffffff 17",
     "00000023 42 00",
     "00000005 0f 00000001 80",
+    "0000000d 0b 00000014 2f6a6f62732f636166 e9 2f636172642d30303031 00000000",
     "",
 ];
 

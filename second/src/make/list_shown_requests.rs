@@ -93,7 +93,7 @@ fn add_texts(out: &mut Vec<Case>, method: &Method) {
 }
 
 /// A message with another text or data in one field.
-fn with_run(method: &Method, index: usize, run: &[u8]) -> Vec<u8> {
+pub fn with_run(method: &Method, index: usize, run: &[u8]) -> Vec<u8> {
     let mut puts = puts(method.request, Style::Counting);
     puts[index] = Put::Run(Filled::exact(run));
     request_draft(method, id(Style::Counting), &puts).bytes

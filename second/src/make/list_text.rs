@@ -108,15 +108,16 @@ fn add_broken(out: &mut Vec<Case>, entry: &[(u8, u8)], turn: &mut usize) {
     }
 }
 
-fn method(name: &str) -> &'static Method {
+pub fn method(name: &str) -> &'static Method {
     METHODS.iter().find(|method| method.name == name).unwrap()
 }
 
-fn run(bytes: &[u8]) -> Put {
+pub fn run(bytes: &[u8]) -> Put {
     Put::Run(Filled::exact(bytes))
 }
 
-fn unlink(text: &[u8]) -> Filled {
+/// A request whose only field is a path.
+pub fn unlink(text: &[u8]) -> Filled {
     request_draft(method("unlink"), 0x55, &[run(text)]).whole()
 }
 
@@ -158,7 +159,8 @@ fn named(names: &[&[u8]]) -> Case {
     write_readdir(60, 0x58, 0, &Filled::exact(&names.concat()), &lengths)
 }
 
-fn names(names: &[&[u8]]) -> Filled {
+/// A readdir reply with these names.
+pub fn names(names: &[&[u8]]) -> Filled {
     let names = names.iter().map(|name| name.to_vec()).collect();
     reply_draft(method("readdir"), 0x59, 0, &[Put::Names(names)]).whole()
 }

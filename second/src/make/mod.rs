@@ -19,6 +19,11 @@ mod list_table_refused;
 mod list_table_reply;
 mod list_table_sound;
 mod list_text;
+mod list_text_ends;
+mod list_text_fields;
+mod list_text_long;
+mod list_text_places;
+mod list_text_small;
 mod list_types;
 mod list_write_names;
 mod list_write_replies;
@@ -32,6 +37,7 @@ mod random_shown;
 mod random_table;
 mod random_values;
 mod random_writers;
+mod strings;
 mod styles;
 mod tables;
 
@@ -51,6 +57,10 @@ pub fn fixed_list(ops: &str) -> Vec<Case> {
     list_lengths::add(&mut out);
     list_listing::add(&mut out);
     list_text::add(&mut out);
+    list_text_places::add(&mut out);
+    list_text_ends::add(&mut out);
+    list_text_fields::add(&mut out);
+    list_text_long::add(&mut out);
     list_results::add(&mut out);
     list_long::add(&mut out);
     list_write_requests::add(&mut out);
@@ -65,6 +75,7 @@ pub fn fixed_list(ops: &str) -> Vec<Case> {
     list_shown_replies::add(&mut out);
     list_shown_names::add(&mut out);
     list_call::add(&mut out);
+    list_text_small::add(&mut out);
     let mut met = HashSet::new();
     out.retain(|case| ops.contains(char::from(case.op)) && met.insert(case.framed()));
     out

@@ -43,12 +43,13 @@ fn draft(prng: &mut Prng, side: Side) -> Draft {
         return request_draft(method, id, &puts);
     }
     let method = reply_method(prng);
-    reply(prng, method, id)
+    reply(prng, method, id, BAD)
 }
 
-/// A reply to a request of this method, with results of all kinds.
-pub fn reply(prng: &mut Prng, method: &Method, id: u32) -> Draft {
-    let puts = puts(prng, method.reply, BAD);
+/// A reply to a request of this method, with results of all kinds. So many of
+/// a hundred texts are bad.
+pub fn reply(prng: &mut Prng, method: &Method, id: u32, bad: usize) -> Draft {
+    let puts = puts(prng, method.reply, bad);
     let wanted = if prng.chance(60) {
         good_result(method, &puts)
     } else if method.number == READ && prng.chance(60) {

@@ -11,6 +11,9 @@ use crate::outstanding::TYPE_LIMIT;
 use crate::refusal::LONGEST;
 use crate::store::header;
 
+/// So many of a hundred texts are bad: few replies have a text.
+const BAD: usize = 30;
+
 /// A type that may be outstanding, most often a method's.
 pub fn request_type(prng: &mut Prng) -> u8 {
     match prng.below(100) {
@@ -46,7 +49,7 @@ pub fn answer(prng: &mut Prng, id: u32, kind: u8) -> Filled {
         let bare = header(id, kind);
         return Filled::padded(&bare, bare.len() + prng.pick(&[0, 0, 1, 9]), prng.byte());
     };
-    let draft = reply(prng, method, id);
+    let draft = reply(prng, method, id, BAD);
     match prng.below(100) {
         0..=34 => damaged(prng, draft),
         35..=36 => Filled::padded(&draft.bytes, LONGEST + prng.pick(&[0, 1]), prng.byte()),

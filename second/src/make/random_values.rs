@@ -7,6 +7,9 @@ use crate::make::put::Put;
 use crate::methods::{Field, Kind};
 use crate::refusal::LONGEST;
 
+/// Most texts that are spoiled have so many characters, from least to most.
+const MANY_CHARACTERS: (usize, usize) = (5, 30);
+
 pub fn number(prng: &mut Prng) -> u64 {
     let bit = 1u64 << prng.below(64);
     match prng.below(8) {
@@ -47,17 +50,33 @@ fn character(prng: &mut Prng) -> Vec<u8> {
     bytes.collect()
 }
 
-/// A well-formed text of a few characters.
-fn good_text(prng: &mut Prng) -> Vec<u8> {
-    let length = prng.pick(&[0, 1, 1, 2, 3, 4, 6, 9]);
+/// A well-formed text of so many characters.
+fn characters(prng: &mut Prng, count: usize) -> Vec<u8> {
     let mut text = Vec::new();
-    for _ in 0..length {
+    for _ in 0..count {
         if prng.chance(50) {
             text.push(prng.between(0x20, 0x7e) as u8);
         } else {
             text.extend(character(prng));
         }
     }
+    text
+}
+
+/// A well-formed text of a few characters.
+fn good_text(prng: &mut Prng) -> Vec<u8> {
+    let count = prng.pick(&[0, 1, 1, 2, 3, 4, 6, 9]);
+    characters(prng, count)
+}
+
+/// A text that is spoiled, often behind several whole characters.
+fn bad_text(prng: &mut Prng) -> Vec<u8> {
+    let mut text = good_text(prng);
+    if prng.chance(70) {
+        let count = prng.between(MANY_CHARACTERS.0, MANY_CHARACTERS.1);
+        text = characters(prng, count);
+    }
+    spoil(prng, &mut text);
     text
 }
 
@@ -78,11 +97,11 @@ fn spoil(prng: &mut Prng, text: &mut Vec<u8>) {
 
 /// A text that is bad in so many of a hundred.
 pub fn text(prng: &mut Prng, bad: usize) -> Vec<u8> {
-    let mut text = good_text(prng);
     if prng.chance(bad) {
-        spoil(prng, &mut text);
+        bad_text(prng)
+    } else {
+        good_text(prng)
     }
-    text
 }
 
 /// Names of which one is bad in so many of a hundred lists. All fit in a
@@ -96,7 +115,7 @@ pub fn names(prng: &mut Prng, bad: usize) -> Vec<Vec<u8>> {
     };
     if !names.is_empty() && prng.chance(bad) {
         let at = prng.below(names.len());
-        spoil(prng, &mut names[at]);
+        names[at] = bad_text(prng);
     }
     names
 }

@@ -2,6 +2,7 @@
 #![allow(dead_code)]
 
 pub mod records;
+pub mod strings;
 pub mod tables;
 
 use second::filled::filled;
@@ -98,7 +99,7 @@ pub fn elements(message: &[u8], mut at: usize, fields: &[Field]) -> Vec<(usize, 
     found
 }
 
-fn length_at(message: &[u8], at: usize) -> usize {
+pub fn length_at(message: &[u8], at: usize) -> usize {
     u32::from_be_bytes(message[at..at + 4].try_into().unwrap()) as usize
 }
 

@@ -81,8 +81,9 @@ impl<'a> Reader<'a> {
     #[inline]
     fn text(&mut self) -> Result<&'a str, Refusal> {
         let bytes = self.data()?;
-        if well_formed_end(bytes) != bytes.len() {
-            return refuse(refusals::MALFORMED_TEXT, self.place() - bytes.len());
+        let end = well_formed_end(bytes);
+        if end != bytes.len() {
+            return refuse(refusals::MALFORMED_TEXT, self.place() - bytes.len() + end);
         }
         // SAFETY: the bytes are well-formed.
         Ok(unsafe { std::str::from_utf8_unchecked(bytes) })
