@@ -1,4 +1,5 @@
--- A message that is refused as malformed text is refused inside a string, where that string breaks. Assumes nothing.
+-- A message that is refused as malformed text is refused inside a string, where that string breaks; and where such a string breaks, the
+-- message is so refused. Assumes nothing.
 use mathlib.Core.Path.{_≡_, refl, sym, ap, _∙_}
 use mathlib.Core.Bool.{Bool, true, false, cond}
 use mathlib.Core.List.{List, [], _∷_}
@@ -13,11 +14,11 @@ use Rattle.number.specs.TwosComplement.{signedOf}
 use Rattle.text.specs.Utf8.{wellFormedEnd, wellFormed}
 use Rattle.text.proofs.Texts.{end-fits, end-well, end-longest}
 use Rattle.layout.specs.Kinds.{width, Kind, num, string, bytes, strings}
-use Rattle.layout.specs.Refusals.{truncatedHeader, oversize, unexpectedType, truncated, malformedText, dataLengthMismatch}
+use Rattle.layout.specs.Refusals.{truncatedHeader, oversize, truncated, malformedText, dataLengthMismatch}
 use Rattle.layout.specs.Limits.{headerSize, longest}
 use Rattle.layout.specs.Table.{Side, Plan, unexpected, header, asked, plain, led, plan}
 use Rattle.layout.specs.Values.{Part, part, Value, signed, run, runs, bytesIn}
-use Rattle.layout.specs.Reading.{Outcome, got, fail, Reader, followed, mapped, numOutcome, numAt, malformedPlace, runAt, anyBytes, stringAt, bytesAt, stringsAt, valueOf, fieldAt, fieldsAt, success, known, body, dataSize, succeeded, behindResult, resultPlace, fieldsPlace, bodyAt, Message, message, messageAt, refused, answer, behindHeader, read}
+use Rattle.layout.specs.Reading.{Outcome, got, fail, followed, mapped, numOutcome, numAt, malformedPlace, runAt, anyBytes, stringAt, bytesAt, stringsAt, valueOf, fieldAt, fieldsAt, success, known, body, dataSize, succeeded, behindResult, resultPlace, fieldsPlace, bodyAt, Message, message, messageAt, refused, answer, behindHeader, read}
 use Rattle.layout.specs.Front.{idOf, typeOf}
 use Rattle.layout.specs.Pieces.{Agree}
 use Rattle.layout.specs.MalformedText.{Reaches, text, name, behind, ReachesIn, in-request, in-bare-reply, behind-result, BreaksAt, Malformed}
@@ -25,7 +26,7 @@ use Rattle.layout.proofs.Agreement.{agree-less, agree-take, same-part, 
 use Rattle.layout.proofs.Cuts.{run-cut}
 use Rattle.layout.proofs.Header.{read-header}
 use Rattle.layout.proofs.Tests.{apart}
-use Rattle.layout.proofs.Sizes.{strings-size, field-size, field-inside}
+use Rattle.layout.proofs.Sizes.{strings-size, field-size}
 use Rattle.layout.proofs.Stays.{num-stays, strings-stay, field-stays}
 use Rattle.layout.proofs.Trace.{NumHere, StringsHere, no-string, a-string-more, num-reads, sized-reads, field-reads, num-traced, strings-traced, field-traced}
 
@@ -346,7 +347,7 @@ module _ (side : Side) (m : List ℕ) where
           let r : behindHeader side (idOf m) (typeOf m) m ≡ refused malformedText q = sym (read-header side m long short) ∙ said in
           bad-message short (body-refuses m (plan side (typeOf m)) (unmapped (message (idOf m) (typeOf m)) (bodyAt (plan side (typeOf m)) m headerSize) (text-refused _ r)))
 
-  -- and where such a string breaks, the message is so refused
+  -- the converse: where such a string breaks, the message is so refused
   breaks-run : {x : Part} {q : ℕ} → BreaksAt m x q → runAt wellFormed (x .size) m (x .start) ≡ fail malformedText q
   unfolding runAt wellFormed
   breaks-run {x} {q} b =

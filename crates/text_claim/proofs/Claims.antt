@@ -1,16 +1,15 @@
 -- The string that breaks is found where a message, cut at the place of its refusal, is refused. Assumes nothing.
 use mathlib.Core.Path.{_≡_, refl, sym, ap, subst, _∙_}
-use mathlib.Core.Bool.{Bool, true, false, cond}
+use mathlib.Core.Bool.{Bool, true, false}
 use mathlib.Core.List.{List, []}
 use Prim.Native.Nat.{ℕ, _+_, _-_, _≤_, _<_}
 use native.Mathlib.Omega.{arith}
-use lib.Dec.{ltb, eqb, leb}
+use lib.Dec.{eqb}
 use lib.ListN.{length, take}
 use lib.Seq.{length-take-le}
 use borrow.Author.Tests.{eqb-true, eqb-false, le-leb, le-ltb}
 use Rattle.number.specs.BigEndian.{whole, numberAt}
 use Rattle.layout.specs.Refusals.{truncated, malformedText}
-use Rattle.layout.specs.Limits.{headerSize}
 use Rattle.layout.specs.Table.{Side}
 use Rattle.layout.specs.Values.{Part}
 use Rattle.layout.specs.Reading.{Answer, refused, accepted, read}
