@@ -7,7 +7,7 @@ use lib.IntN.{pos}
 use lib.ListN.{length, take}
 use Rattle.number.specs.TwosComplement.{signedOf}
 use Rattle.text.specs.Utf8.{WellFormed}
-use Rattle.layout.specs.Kinds.{Kind, string, strings}
+use Rattle.layout.specs.Kinds.{u32, i32, width, Kind, string, strings}
 use Rattle.layout.specs.Refusals.{truncated}
 use Rattle.layout.specs.Limits.{headerSize}
 use Rattle.layout.specs.Table.{Side, Plan, asked, plain, led, plan}
@@ -17,9 +17,9 @@ use Rattle.layout.specs.Front.{typeOf}
 
 -- reading these fields from p on comes to the string x: all that stands before its bytes is read, its length too
 pub data Reaches (m : List ℕ) : List Kind → ℕ → Part → Type 0 where
-  text : {ks : List Kind} {p q n : ℕ} → numAt 4 m p ≡ got n q → Reaches m (string ∷ ks) p (part q n)
+  text : {ks : List Kind} {p q n : ℕ} → numAt (width u32) m p ≡ got n q → Reaches m (string ∷ ks) p (part q n)
   -- one of c names, behind k others
-  name : {ks : List Kind} {p q r s c k n : ℕ} {xs : List Part} → numAt 4 m p ≡ got c q → k < c → stringsAt k m q ≡ got xs r → numAt 4 m r ≡ got n s
+  name : {ks : List Kind} {p q r s c k n : ℕ} {xs : List Part} → numAt (width u32) m p ≡ got c q → k < c → stringsAt k m q ≡ got xs r → numAt (width u32) m r ≡ got n s
       → Reaches m (strings ∷ ks) p (part s n)
   behind : {k : Kind} {ks : List Kind} {p q : ℕ} {v : Value Part} {x : Part} → fieldAt k m p ≡ got v q → Reaches m ks q x → Reaches m (k ∷ ks) p x
 
@@ -27,7 +27,7 @@ pub data Reaches (m : List ℕ) : List Kind → ℕ → Part → Type 0 where
 pub data ReachesIn (m : List ℕ) : Plan → Part → Type 0 where
   in-request : {ks : List Kind} {x : Part} → Reaches m ks headerSize x → ReachesIn m (asked ks) x
   in-bare-reply : {ks : List Kind} {x : Part} → Reaches m ks headerSize x → ReachesIn m (plain ks) x
-  behind-result : {c : Bool} {ks : List Kind} {n r : ℕ} {x : Part} → numAt 4 m resultPlace ≡ got n fieldsPlace → signedOf 4 n ≡ pos r
+  behind-result : {c : Bool} {ks : List Kind} {n r : ℕ} {x : Part} → numAt (width i32) m resultPlace ≡ got n fieldsPlace → signedOf (width i32) n ≡ pos r
       → Reaches m ks fieldsPlace x → ReachesIn m (led c ks) x
 
 -- the string x breaks at q

@@ -36,5 +36,5 @@ pub record FindsText (side : Side) (m : List ℕ) (a : Answer) (x : Part) : Type
   pub breaks : {q : ℕ} → a ≡ refused malformedText q → Malformed side m q x
   -- any other answer: no string
   pub none : ((q : ℕ) → a ≡ refused malformedText q → ⊥) → x ≡ nothing
-  -- and no string that reading comes to breaks untold
+  -- and in a message that is not oversize, no string that reading comes to breaks untold
   pub told : {y : Part} {q : ℕ} → length m ≤ longest → ReachesIn m (plan side (typeOf m)) y → BreaksAt m y q → a ≡ refused malformedText q
