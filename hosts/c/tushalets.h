@@ -23,7 +23,7 @@ extern "C" {
 #endif
 
 /* The version of the functions below, their arguments and answers, the cells and the words of a table. */
-#define TUSHALETS_VERSION 2
+#define TUSHALETS_VERSION 3
 
 /* Bytes of the longest message, and bytes that hold every listing. */
 #define TUSHALETS_LONGEST 65536
@@ -97,7 +97,7 @@ enum {
     TUSHALETS_ACT_REFUSED = 2
 };
 
-/* Cells of a reading: its fields in the order of the page, and 0 behind them. Cells and positions of names belong to
+/* Cells of a reading: its fields in the order below, and 0 behind them. Cells and positions of names belong to
  * the bytes that were read: they are good with the same message, at the same length and unchanged.
  *   u8, u32, u64     one cell
  *   i8, i32          one cell with the 32 bits of the number: (int32_t)(uint32_t)fields[n]
@@ -124,7 +124,7 @@ enum {
  *   release request    path 0,1 (string)  handle 2 (u64)
  *   unlink request     path 0,1 (string)
  *   read request       path 0,1 (string)  buffer_size 2 (u32)  offset 3 (u64)  handle 4 (u64)
- *   write request      data 0,1 (bytes)  offset 2 (u64)  handle 3 (u64)
+ *   write request      path 0,1 (string)  data 2,3 (bytes)  offset 4 (u64)  handle 5 (u64)
  *   mkdir request      path 0,1 (string)  mode 2 (u32)
  *   readdir request    path 0,1 (string)
  *   rmdir request      path 0,1 (string)
@@ -226,7 +226,8 @@ tushalets_written tushalets_list_request(const uint8_t *message, size_t message_
 
 /* Writes a request of one of the methods. `numbers` are the numbers of its row above, in order and without texts and
  * data: of a read request, buffer_size, offset, handle. Each is in the low bits of its word; a bool is any word but 0.
- * `first` and `second` are its texts or data, in order. What the type does not have is not looked at. */
+ * `first` and `second` are its texts or data, in order: of a write request, the path and the data. What the type does
+ * not have is not looked at. */
 tushalets_written tushalets_write_request(uint32_t id, uint8_t type, const uint64_t numbers[5],
                                           const uint8_t *first, size_t first_len,
                                           const uint8_t *second, size_t second_len,

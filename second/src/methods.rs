@@ -136,7 +136,8 @@ pub static METHODS: [Method; 23] = [
     row(0x0e, "release", &[PATH, HANDLE], &[]),
     row(0x0f, "unlink", &[PATH], &[]),
     row(0x10, "read", &[PATH, field("buffer_size", U32), OFFSET, HANDLE], &[DATA]),
-    row(0x11, "write", &[DATA, OFFSET, HANDLE], &[]),
+    // Item 3 of document 02 puts the path before the fields of the page.
+    row(0x11, "write", &[PATH, DATA, OFFSET, HANDLE], &[]),
     row(0x12, "mkdir", &[PATH, MODE], &[]),
     row(0x13, "readdir", &[PATH], &[field("items", Names)]),
     row(0x14, "rmdir", &[PATH], &[]),

@@ -28,7 +28,11 @@ const REQUESTS: [(&str, &str); 23] = [
         "10 00000001 2f 00000001 0000000000000002 0000000000000003",
         "read 30 path=9:1:48 buffer_size=1 offset=2 handle=3",
     ),
-    ("11 00000001 ff 0000000000000001 0000000000000002", "write 26 data=9:1:256 offset=1 handle=2"),
+    (
+        // Item 3 of document 02 puts the path before the fields of the page.
+        "11 00000001 2f 00000001 ff 0000000000000001 0000000000000002",
+        "write 31 path=9:1:48 data=14:1:256 offset=1 handle=2",
+    ),
     ("12 00000001 2f 00000001", "mkdir 14 path=9:1:48 mode=1"),
     ("13 00000001 2f", "readdir 10 path=9:1:48"),
     ("14 00000001 2f", "rmdir 10 path=9:1:48"),

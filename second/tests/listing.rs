@@ -71,8 +71,8 @@ fn bools_and_signs() {
 #[test]
 fn texts_and_data_as_lengths() {
     assert_eq!(
-        listed("00000001 11 00000003 ffffff 0000000000000001 0000000000000002"),
-        "write id 1\ndata 3\noffset 1\nhandle 2\nknown 28 of 28\n"
+        listed("00000001 11 00000002 2f61 00000003 ffffff 0000000000000001 0000000000000002"),
+        "write id 1\npath 2\ndata 3\noffset 1\nhandle 2\nknown 34 of 34\n"
     );
     assert_eq!(
         listed("00000001 06 00000001 61 00000002 6262 ff"),

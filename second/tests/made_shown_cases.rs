@@ -16,6 +16,9 @@ const REPLY: u8 = 1;
 
 const LONGEST_MESSAGE: usize = 300;
 
+/// So many cases by a seed have every room for every reply.
+const FRESH: usize = 20_000;
+
 /// The committed cases have room for more than the fixed list.
 const MOST_FIXED: usize = 700;
 
@@ -46,7 +49,7 @@ impl Shown {
 
 /// The cases of one side, first of the fixed list, then by a seed.
 fn both(side: u8) -> [Vec<Shown>; 2] {
-    let fresh = Cases::fresh(31, "s").take(12_000).collect();
+    let fresh = Cases::fresh(31, "s").take(FRESH).collect();
     [fixed_list("s"), fresh].map(|cases: Vec<Case>| {
         cases.iter().map(Shown::new).filter(|shown| shown.side == side).collect()
     })

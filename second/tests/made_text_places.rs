@@ -6,9 +6,9 @@ mod common;
 use std::collections::BTreeSet;
 use std::str::from_utf8;
 
-use common::strings::{malformed, strings, Malformed, Side};
+use common::length_at;
+use common::strings::{malformed, message_of, strings, Malformed, Side};
 use common::tables::{table, Called};
-use common::{length_at, message_at};
 use second::answer::answer;
 use second::hash::hash;
 use second::make::case::Case;
@@ -29,23 +29,10 @@ impl Met {
 
 /// The messages of a case. A table that is not sound does not look at its.
 fn met(case: &Case) -> Vec<Met> {
-    let (side, message) = match case.op {
-        b'q' => (Side::Request, message_at(&case.body, 0)),
-        b'p' => (Side::Reply, message_at(&case.body, 0)),
-        b'l' | b'f' => (Side::Request, message_at(&case.body, 4)),
-        b'g' => (side(case.body[0]), message_at(&case.body, 5)),
-        b's' => (side(case.body[0]), case.body[5..].to_vec()),
-        _ => return arrived(case),
+    let Some((side, message)) = message_of(case) else {
+        return arrived(case);
     };
     vec![Met { side, message, told: answer(case.op, &case.body).unwrap() }]
-}
-
-fn side(byte: u8) -> Side {
-    if byte == 0 {
-        Side::Request
-    } else {
-        Side::Reply
-    }
 }
 
 fn arrived(case: &Case) -> Vec<Met> {
@@ -194,7 +181,7 @@ fn width(first: u8) -> usize {
 
 /// Characters broken off at the end of a string, which the bytes behind the
 /// string would complete: as the end of the known part, as a number, as the
-/// length of the next text or name.
+/// length of the next text or name, or of data.
 #[test]
 fn broken_off_before_continuation_bytes() {
     let cuts = BTreeSet::from([(2, 1), (3, 1), (3, 2), (4, 1), (4, 2), (4, 3)]);
@@ -212,7 +199,7 @@ fn broken_off_before_continuation_bytes() {
         }
         assert_eq!(found, cuts, "{op}");
         let wanted: &[(u8, usize)] = match op {
-            "q" => &[(0x0f, 0), (0x01, 0), (0x07, 0), (0x06, 0), (0x06, 1), (0x04, 1)],
+            "q" => &[(0x0f, 0), (0x01, 0), (0x07, 0), (0x06, 0), (0x06, 1), (0x04, 1), (0x11, 0)],
             "p" | "t" | "o" => &[(0x83, 0), (0x97, 0), (0x93, 0), (0x93, 1)],
             _ => &[],
         };
@@ -226,7 +213,7 @@ fn every_string_of_every_request() {
     let found: BTreeSet<(u8, usize)> =
         broken("q").iter().map(|(met, malformed)| (met.message[4], malformed.nth)).collect();
     let mut wanted = BTreeSet::from([(0x04, 1), (0x05, 1), (0x06, 1)]);
-    wanted.extend((0x01..=0x16).filter(|kind| *kind != 0x11).map(|kind| (kind, 0)));
+    wanted.extend((0x01..=0x16).map(|kind| (kind, 0)));
     assert_eq!(found, wanted);
 }
 

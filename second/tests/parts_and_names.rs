@@ -11,7 +11,8 @@ fn each_field_has_its_own_name() {
     assert_eq!(request_part(&symlink, "target"), b"t");
     assert_eq!(request_part(&symlink, "linkpath"), b"lk");
     assert_eq!(request_part(&symlink, "path"), b"");
-    let write = from_hex("00000001 11 00000002 ff00 0000000000000001 0000000000000002");
+    let write = from_hex("00000001 11 00000001 70 00000002 ff00 0000000000000001 0000000000000002");
+    assert_eq!(request_part(&write, "path"), b"p");
     assert_eq!(request_part(&write, "data"), [0xff, 0]);
     assert_eq!(request_part(&write, "offset"), b"");
 }

@@ -2,7 +2,7 @@
 
 mod common;
 
-use common::framed;
+use common::{framed, lent};
 use second::answer::answer;
 use second::hash::hash;
 use second::hex::from_hex;
@@ -66,8 +66,8 @@ fn each_part_of_a_request_has_its_place() {
     assert_eq!(parts(link), "request 0:0 0:0 0:0 1:112 0:0 0:0");
     let rename = "00000001 06 00000000 00000002 6c6b 80";
     assert_eq!(parts(rename), "request 0:0 0:0 0:0 0:0 2:28121 0:0");
-    let write = "00000001 11 00000002 ff00 0000000000000001 0000000000000002";
-    assert_eq!(parts(write), "request 0:0 0:0 0:0 0:0 0:0 2:65793");
+    let write = "00000001 11 00000001 2f 00000002 ff00 0000000000000001 0000000000000002";
+    assert_eq!(parts(write), "request 1:48 0:0 0:0 0:0 0:0 2:65793");
 }
 
 #[test]
@@ -143,17 +143,12 @@ fn replies_written_again() {
     assert_eq!(again(9, access), format!("stored 9 {hashed} 0"));
     // Byte 9 of the buffer is 66.
     assert_eq!(again(10, access), format!("stored 9 {hashed} 67"));
-    assert_eq!(again(8, access), format!("refused 7 at 0 {}", hash(&filled(8))));
+    assert_eq!(again(8, access), format!("refused 7 at 0 {}", hash(&lent(8))));
     // The bytes behind the last name are not written again.
     let names = "00000001 93 00000005 00000002 00000001 61 00000000";
     let hashed = hash(&from_hex(names));
     assert_eq!(again(22, &format!("{names} ff")), format!("stored 22 {hashed} 0"));
-    assert_eq!(again(21, names), format!("refused 7 at 0 {}", hash(&filled(21))));
-}
-
-/// What a lent buffer holds before a call.
-fn filled(len: usize) -> Vec<u8> {
-    (0..len).map(|index| ((index % 251 * 7 + 3) % 251) as u8).collect()
+    assert_eq!(again(21, names), format!("refused 7 at 0 {}", hash(&lent(21))));
 }
 
 #[test]

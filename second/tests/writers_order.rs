@@ -43,9 +43,10 @@ fn request_with_a_bad_second_text() {
 
 #[test]
 fn data_is_not_text() {
-    let values = [Value::run(BAD), Value::Unsigned(1), Value::Unsigned(2)];
-    let wanted =
-        second::hex::from_hex("00000001 11 00000002 61ff 0000000000000001 0000000000000002");
+    let values = [Value::run(b"p"), Value::run(BAD), Value::Unsigned(1), Value::Unsigned(2)];
+    let wanted = second::hex::from_hex(
+        "00000001 11 00000001 70 00000002 61ff 0000000000000001 0000000000000002",
+    );
     assert_stored(&wanted, 40, |buffer| write_request(buffer, 1, method("write"), &values));
 }
 

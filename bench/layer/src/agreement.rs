@@ -9,7 +9,7 @@ const COPIES: usize = 2_000;
 /// Room beyond a message's own length, for a failure in place of a short message.
 const SPARE: usize = 16;
 
-/// More bytes than stand around the data of a message.
+/// More bytes than stand around the data of a message with a path of one byte.
 const NEAR_LIMIT: usize = 32;
 
 const FILLING: u8 = 0xaa;
@@ -41,7 +41,7 @@ fn compare_limits(random: &mut Random) {
     let data = [0; LONGEST];
     for len in LONGEST - NEAR_LIMIT..=LONGEST {
         let data = &data[..len];
-        compare_request_writers(0, &Request::Write { data, offset: 0, handle: 0 }, LONGEST);
+        compare_request_writers(0, &Request::Write { path: "/", data, offset: 0, handle: 0 }, LONGEST);
         compare_reply_writers(0, &messages::read_reply(data), LONGEST);
     }
 }

@@ -29,12 +29,14 @@ fn main() {
     for (name, request) in [("access", messages::ACCESS), ("rename", messages::RENAME), ("read", messages::READ)] {
         time_read_request(&format!("read {name} request"), &request);
     }
+    time_read_request("read write request of 4,096", &messages::write(&DATA));
     time_read_reply("read getattr reply", &messages::reply(&messages::GETATTR_REPLY));
     time_read_reply("read read reply of 4,096", &messages::reply(&messages::read_reply(&DATA)));
     for len in [SHORT_NAME, LONG_NAME] {
         time_directory(&format!("read readdir reply, names of {len}"), &messages::long_directory(len));
     }
     time_write_request("write access request", &messages::ACCESS);
+    time_write_request("write write request of 4,096", &messages::write(&DATA));
     time_write_reply("write getattr reply", &messages::GETATTR_REPLY);
     time_write_reply("write read reply of 4,096", &messages::read_reply(&DATA));
     time_front("front, good getattr request", &messages::GETATTR);

@@ -24,6 +24,11 @@ pub const GETATTR: Request<'_> = Request::Getattr { path: PATH };
 pub const RENAME: Request<'_> = Request::Rename { old_path: PATH, new_path: PATH, flags: 1 };
 pub const READ: Request<'_> = Request::Read { path: PATH, buffer_size: 4096, offset: 0x2000, handle: HANDLE };
 
+/// A write request.
+pub const fn write(data: &[u8]) -> Request<'_> {
+    Request::Write { path: PATH, data, offset: 0x2000, handle: HANDLE }
+}
+
 const ATTRIBUTES: Attributes = Attributes {
     inode: 0x2122_2324_2526_2728,
     nlink: 2,
@@ -102,7 +107,7 @@ pub fn requests() -> Vec<Request<'static>> {
         Request::Create { path, mode: 0o600 },
         Request::Release { path, handle },
         Request::Unlink { path },
-        Request::Write { data: &[0x80; 7], offset: 6, handle },
+        Request::Write { path, data: &[0x80; 7], offset: 6, handle },
         Request::Mkdir { path, mode: 0o755 },
         Request::Readdir { path },
         Request::Rmdir { path },

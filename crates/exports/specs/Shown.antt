@@ -16,7 +16,7 @@ use Rattle.exports.specs.declared.TushaletsFronted.{TushaletsFronted}
 
 -- the version of the exported functions, their arguments and their answers
 abbrev pub version : ℕ
-version = 2
+version = 3
 
 -- ---- a reading
 

@@ -7,7 +7,7 @@ use message_writer::Written;
 
 // The version of all that a host sees: the functions, their arguments and answers, the cells of an answer and the words of a table. A
 // change of any raises it; a function that is added does not.
-pub const VERSION: u32 = 2;
+pub const VERSION: u32 = 3;
 
 // The answer of a reader. `shape` is 0 for a refusal, which has `number` and `place` and nothing else; 1 for an unknown request or
 // the unknown response, 2 for a known request, 3 for a failure, 4 for a success, which have all but these two. `fields` has the

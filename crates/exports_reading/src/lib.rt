@@ -138,13 +138,13 @@ fn request_cells(request: Request) -> [u64; 17]
         Request::Access { path, mode } => one_run(path, signed_cell(widened(mode)), 0, 0, 0, 0),
         Request::Getattr { path } => one_run(path, 0, 0, 0, 0, 0),
         Request::Readlink { path } => one_run(path, 0, 0, 0, 0, 0),
-        Request::Symlink { target, linkpath } => two_runs(target, linkpath, 0),
-        Request::Link { old_path, new_path } => two_runs(old_path, new_path, 0),
+        Request::Symlink { target, linkpath } => two_runs(target, linkpath, 0, 0),
+        Request::Link { old_path, new_path } => two_runs(old_path, new_path, 0, 0),
         Request::Rename {
             old_path,
             new_path,
             flags,
-        } => two_runs(old_path, new_path, flags as u64),
+        } => two_runs(old_path, new_path, flags as u64, 0),
         Request::Chmod { path, mode } => one_run(path, mode as u64, 0, 0, 0, 0),
         Request::Chown { path, uid, gid } => one_run(path, uid as u64, gid as u64, 0, 0, 0),
         Request::Truncate { path, size, handle } => one_run(path, size, handle, 0, 0, 0),
@@ -165,10 +165,11 @@ fn request_cells(request: Request) -> [u64; 17]
             handle,
         } => one_run(path, buffer_size as u64, offset, handle, 0, 0),
         Request::Write {
+            path,
             data,
             offset,
             handle,
-        } => one_run(data, offset, handle, 0, 0, 0),
+        } => two_runs(path, data, offset, handle),
         Request::Mkdir { path, mode } => one_run(path, mode as u64, 0, 0, 0, 0),
         Request::Readdir { path } => one_run(path, 0, 0, 0, 0, 0),
         Request::Rmdir { path } => one_run(path, 0, 0, 0, 0, 0),
@@ -279,7 +280,7 @@ fn bool_cell(x: bool) -> u64
     if x { 1 } else { 0 }
 }
 
-// The cells of a text or data and five numbers behind it.
+// The cells of a text and five numbers behind it.
 fn one_run(x: Run, a: u64, b: u64, c: u64, d: u64, e: u64) -> [u64; 17]
     ensures { λ r. ⌜ r ≡ padded cellCount (x .start ∷ x .len ∷ a ∷ b ∷ c ∷ d ∷ e ∷ []) ⌝ }
 {
@@ -288,11 +289,11 @@ fn one_run(x: Run, a: u64, b: u64, c: u64, d: u64, e: u64) -> [u64; 17]
     [start, len, a, b, c, d, e, 0, 0, 0, 0, 0, 0, 0, 0, 0, 0]
 }
 
-// The cells of two texts and a number behind them.
-fn two_runs(x: Run, y: Run, a: u64) -> [u64; 17]
-    ensures { λ r. ⌜ r ≡ padded cellCount (x .start ∷ x .len ∷ y .start ∷ y .len ∷ a ∷ []) ⌝ }
+// The cells of two texts, or of a text and data, and two numbers behind them.
+fn two_runs(x: Run, y: Run, a: u64, b: u64) -> [u64; 17]
+    ensures { λ r. ⌜ r ≡ padded cellCount (x .start ∷ x .len ∷ y .start ∷ y .len ∷ a ∷ b ∷ []) ⌝ }
 {
-    one_run(x, y.start as u64, y.len as u64, a, 0, 0)
+    one_run(x, y.start as u64, y.len as u64, a, b, 0)
 }
 
 fn three_cells(a: u64, b: u64, c: u64) -> [u64; 17]

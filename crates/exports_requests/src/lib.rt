@@ -14,7 +14,7 @@ use exports_values::*;
 use message_writer::Written;
 use method::Method;
 
-// A known request. `first` and `second` are its texts or data, in the order of the page.
+// A known request. `first` and `second` are its texts or data, in the order of the table: of a write request the path and the data.
 #[no_mangle]
 pub extern "C" fn tushalets_write_request(
     id: u32,
@@ -81,7 +81,9 @@ fn write_request(
         Method::READ => {
             request_writer::write_read(id, first, low_u32(numbers[0]), numbers[1], numbers[2], out)
         }
-        Method::WRITE => request_writer::write_write(id, first, numbers[0], numbers[1], out),
+        Method::WRITE => {
+            request_writer::write_write(id, first, second, numbers[0], numbers[1], out)
+        }
         Method::MKDIR => request_writer::write_mkdir(id, first, low_u32(numbers[0]), out),
         Method::READDIR => request_writer::write_readdir(id, first, out),
         Method::RMDIR => request_writer::write_rmdir(id, first, out),

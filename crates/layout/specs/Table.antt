@@ -1,4 +1,5 @@
--- The table of document 01, "Messages": the fields of each method's request and reply; and what follows the header of a type.
+-- The table of document 01, "Messages", its write line as document 02, Item 3, has it: the fields of each method's request and reply; and what
+-- follows the header of a type.
 use Prim.Native.Nat.{ℕ, _≤_}
 use mathlib.Core.Bool.{Bool, true, false, cond}
 use mathlib.Core.List.{List, [], _∷_, _++_}
@@ -51,7 +52,7 @@ row Create = path ∷ "mode" is num u32 ∷ [] gets result (handle ∷ [])
 row Release = path ∷ handle ∷ [] gets result []
 row Unlink = path ∷ [] gets result []
 row Read = path ∷ "buffer_size" is num u32 ∷ "offset" is num u64 ∷ handle ∷ [] gets counted ("data" is bytes ∷ [])
-row Write = "data" is bytes ∷ "offset" is num u64 ∷ handle ∷ [] gets result []
+row Write = path ∷ "data" is bytes ∷ "offset" is num u64 ∷ handle ∷ [] gets result []
 row Mkdir = path ∷ "mode" is num u32 ∷ [] gets result []
 row Readdir = path ∷ [] gets result ("items" is strings ∷ [])
 row Rmdir = path ∷ [] gets result []

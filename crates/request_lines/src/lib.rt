@@ -3,7 +3,7 @@ ghost use mathlib.Core.List.{[], _∷_};
 ghost use Rattle.method.specs.declared.Method.the-variants as methods;
 ghost use Rattle.layout.specs.Values.{number as natural, signed, truth, run};
 ghost use Rattle.wire.specs.Runs.{partOf};
-ghost use Rattle.wire.specs.Values.{renameValues, readValues, utimensValues};
+ghost use Rattle.wire.specs.Values.{renameValues, readValues, writeValues, utimensValues};
 ghost use Rattle.request_reader.specs.Answers.{methodOf, valuesOf};
 ghost use Rattle.request_lines.specs.FieldLines.{AddsFields};
 use request_reader::Request;
@@ -46,10 +46,11 @@ pub fn put_fields(out: &mut [u8], c: Cursor, request: Request) -> Cursor
             handle,
         } => put_read(out, c, path, buffer_size, offset, handle),
         Request::Write {
+            path,
             data,
             offset,
             handle,
-        } => put_write(out, c, data, offset, handle),
+        } => put_write(out, c, path, data, offset, handle),
         Request::Mkdir { path, mode } => put_path_mode(out, c, path, mode),
         Request::Readdir { path } => put_path(out, c, path),
         Request::Rmdir { path } => put_path(out, c, path),
@@ -173,10 +174,11 @@ fn put_read(
     lines::put_number(out, behind_offset, b"handle", handle)
 }
 
-fn put_write(out: &mut [u8], c: Cursor, data: Run, offset: u64, handle: u64) -> Cursor
-    ensures { λ r. ⌜ AddsFields (now (out .entry)) c methods.Write (run (partOf «data») ∷ natural offset ∷ natural handle ∷ []) (now (out .exit)) r ⌝ }
+fn put_write(out: &mut [u8], c: Cursor, path: Run, data: Run, offset: u64, handle: u64) -> Cursor
+    ensures { λ r. ⌜ AddsFields (now (out .entry)) c methods.Write (writeValues (partOf path) (partOf «data») offset handle) (now (out .exit)) r ⌝ }
 {
-    let behind_data = lines::put_number(out, c, b"data", data.len as u64);
+    let behind_path = lines::put_number(out, c, b"path", path.len as u64);
+    let behind_data = lines::put_number(out, behind_path, b"data", data.len as u64);
     let behind_offset = lines::put_number(out, behind_data, b"offset", offset);
     lines::put_number(out, behind_offset, b"handle", handle)
 }

@@ -47,8 +47,8 @@ noParts = parts nothing nothing nothing nothing nothing nothing
 abbrev pub onlyPath : Part → Parts
 onlyPath x = parts x nothing nothing nothing nothing nothing
 
-abbrev pub onlyData : Part → Parts
-onlyData x = parts nothing nothing nothing nothing nothing x
+abbrev pub pathAndData : Part → Part → Parts
+pathAndData x y = parts x nothing nothing nothing nothing y
 
 abbrev pub linkPaths : Part → Part → Parts
 linkPaths x y = parts nothing x y nothing nothing nothing

@@ -4,7 +4,7 @@ ghost use Rattle.layout.specs.Table.{request as request·side};
 ghost use Rattle.layout.specs.Parts.{partNamed};
 ghost use Rattle.wire.specs.Runs.{partOf, Shows};
 ghost use Rattle.request_reader.specs.Answers.{answerOf};
-ghost use Rattle.request_parts.specs.Parts.{partsOf, partsNamed, partsOfRequest, onlyPath, onlyData, twoPaths, linkPaths, noParts};
+ghost use Rattle.request_parts.specs.Parts.{partsOf, partsNamed, partsOfRequest, onlyPath, pathAndData, twoPaths, linkPaths, noParts};
 use request_reader::Request;
 use request_reader::RequestAnswer;
 use wire::Run;
@@ -47,12 +47,12 @@ fn only_path(path: Run) -> Runs
     }
 }
 
-fn only_data(data: Run) -> Runs
-    ensures { λ r. ⌜ partsOf r ≡ onlyData (partOf «data») ⌝ }
+fn path_and_data(path: Run, data: Run) -> Runs
+    ensures { λ r. ⌜ partsOf r ≡ pathAndData (partOf path) (partOf «data») ⌝ }
 {
     let none = Run::EMPTY;
     Runs {
-        path: none,
+        path,
         target: none,
         linkpath: none,
         old_path: none,
@@ -113,7 +113,7 @@ fn runs_of_request(request: Request) -> Runs
         Request::Release { path, .. } => only_path(path),
         Request::Unlink { path } => only_path(path),
         Request::Read { path, .. } => only_path(path),
-        Request::Write { data, .. } => only_data(data),
+        Request::Write { path, data, .. } => path_and_data(path, data),
         Request::Mkdir { path, .. } => only_path(path),
         Request::Readdir { path } => only_path(path),
         Request::Rmdir { path } => only_path(path),

@@ -11,7 +11,7 @@ use Rattle.layout.specs.Reading.{mapped, unknown, known, body, bodyAt, message,
 use Rattle.wire.specs.declared.Cursor.{Cursor}
 use Rattle.field_reader.specs.Cursors.{outcomeAt, from}
 use Rattle.wire.specs.Runs.{partOf}
-use Rattle.wire.specs.Values.{renameValues, readValues, utimensValues}
+use Rattle.wire.specs.Values.{renameValues, readValues, writeValues, utimensValues}
 use Rattle.request_reader.specs.declared.Request.{Request}
 use Rattle.request_reader.specs.declared.Request.the-variants as R
 use Rattle.request_reader.specs.declared.RequestAnswer.{RequestAnswer}
@@ -34,7 +34,7 @@ methodOf (R.Create path mode) = Create
 methodOf (R.Release path handle) = Release
 methodOf (R.Unlink path) = Unlink
 methodOf (R.Read path buffer-size offset handle) = Read
-methodOf (R.Write content offset handle) = Write
+methodOf (R.Write path content offset handle) = Write
 methodOf (R.Mkdir path mode) = Mkdir
 methodOf (R.Readdir path) = Readdir
 methodOf (R.Rmdir path) = Rmdir
@@ -60,7 +60,7 @@ valuesOf (R.Create path mode) = run (partOf path) ∷ number mode ∷ []
 valuesOf (R.Release path handle) = run (partOf path) ∷ number handle ∷ []
 valuesOf (R.Unlink path) = run (partOf path) ∷ []
 valuesOf (R.Read path buffer-size offset handle) = readValues (partOf path) buffer-size offset handle
-valuesOf (R.Write content offset handle) = run (partOf content) ∷ number offset ∷ number handle ∷ []
+valuesOf (R.Write path content offset handle) = writeValues (partOf path) (partOf content) offset handle
 valuesOf (R.Mkdir path mode) = run (partOf path) ∷ number mode ∷ []
 valuesOf (R.Readdir path) = run (partOf path) ∷ []
 valuesOf (R.Rmdir path) = run (partOf path) ∷ []

@@ -12,8 +12,8 @@ use wire::Refusal;
 use wire::Run;
 use wire::Timestamp;
 
-// A request of each method, its fields by the row of document 01's table and its numbers at their own types. A text or data field is a run: a
-// part of the message.
+// A request of each method, its fields by the row of document 01's table, which document 02, Item 3, amends for write, and its numbers at their
+// own types. A text or data field is a run: a part of the message.
 pub enum Request {
     // access: path S, mode i8.
     Access {
@@ -99,8 +99,9 @@ pub enum Request {
         offset: u64,
         handle: u64,
     },
-    // write: data bytes, offset u64, handle u64.
+    // write: path S, data bytes, offset u64, handle u64.
     Write {
+        path: Run,
         data: Run,
         offset: u64,
         handle: u64,
@@ -526,17 +527,20 @@ fn read_read(m: &[u8], c: Cursor, id: u32) -> RequestAnswer
     )
 }
 
-// write: data bytes, offset u64, handle u64. Refuses 4.
+// write: path S, data bytes, offset u64, handle u64. Refuses 4, 5.
 fn read_write(m: &[u8], c: Cursor, id: u32) -> RequestAnswer
     ensures { λ r. ⌜ answerOf r ≡ answerAt (now (m .entry)) c id (requestNumber Write) ⌝ }
 {
-    let data = field_reader::bytes_at(m, c);
+    let path = field_reader::string_at(m, c);
+    let data = field_reader::bytes_at(m, path.next);
     let offset = field_reader::u64_at(m, data.next);
     let handle = field_reader::u64_at(m, offset.next);
+    let path_value = path.value;
     let data_value = data.value;
     finish(
         id,
         Request::Write {
+            path: path_value,
             data: data_value,
             offset: offset.value,
             handle: handle.value,

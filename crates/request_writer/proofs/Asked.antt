@@ -24,6 +24,11 @@ use Rattle.message_writer.specs.Writers.{admitted, Ends, Wrote}
 use Rattle.field_writer.proofs.Storing.{puts-then, encodings, concat-encodings, fields-put}
 use Rattle.message_writer.proofs.Writers.{wrote}
 
+-- what was stored at a place that the checks gave, where `right` is what they found of its texts
+pub checked : {l m : List ℕ} {es : List (List ℕ)} {d f : Cursor} {found right : Bool} (size : ℕ) → found ≡ right → d ≡ admitted found size (length l)
+    → Puts l d es m f → Puts l (admitted right size (length l)) es m f
+checked {l} {m} {es} {f = f} size same place q = subst (λ (e : Cursor). Puts l e es m f) (place ∙ ap (λ (b : Bool). admitted b size (length l)) same) q
+
 -- the pieces are the request's, and their size was checked
 asks : (i t : ℕ) (vs : List (Value (List ℕ))) {l n : List ℕ} {f : Cursor} {es : List (List ℕ)} {r : Written} {ks : List Kind} (size : ℕ) (ok : Bool)
     → Ends f r → plan request t ≡ asked ks → ok ≡ textsRight ks vs → concat es ≡ encodeMessage request known i t vs

@@ -33,11 +33,11 @@ runSize s w = length s + 0 + (headerSize + width u32 + w)
 abbrev pub runsSize : List ℕ → List ℕ → ℕ → ℕ
 runsSize s u w = length s + length u + (headerSize + width u32 + width u32 + w)
 
--- such a request began in a lent buffer; a run that is marked as text is looked at
-abbrev pub RunStarted : Bool → RefT (List ℕ) → ℕ → ℕ → ℕ → RefT (List ℕ) → RefT (List ℕ) → Cursor → Type 0
-RunStarted text s w i t before after =
-    RequestStarted (validBy text (now s)) (now s ∷ []) (runSize (now s) w) i t (now before) (now after)
+-- such a request began in a lent buffer; its first run is looked at as a text, and a second one where it is marked as text
+abbrev pub RunStarted : RefT (List ℕ) → ℕ → ℕ → ℕ → RefT (List ℕ) → RefT (List ℕ) → Cursor → Type 0
+RunStarted s w i t before after =
+    RequestStarted (validBy true (now s)) (now s ∷ []) (runSize (now s) w) i t (now before) (now after)
 
-abbrev pub RunsStarted : Bool → RefT (List ℕ) → Bool → RefT (List ℕ) → ℕ → ℕ → ℕ → RefT (List ℕ) → RefT (List ℕ) → Cursor → Type 0
-RunsStarted text s text′ u w i t before after =
-    RequestStarted (validBy text (now s) && validBy text′ (now u)) (now s ∷ now u ∷ []) (runsSize (now s) (now u) w) i t (now before) (now after)
+abbrev pub RunsStarted : RefT (List ℕ) → Bool → RefT (List ℕ) → ℕ → ℕ → ℕ → RefT (List ℕ) → RefT (List ℕ) → Cursor → Type 0
+RunsStarted s isText u w i t before after =
+    RequestStarted (validBy true (now s) && validBy isText (now u)) (now s ∷ now u ∷ []) (runsSize (now s) (now u) w) i t (now before) (now after)

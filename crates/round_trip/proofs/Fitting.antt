@@ -91,7 +91,7 @@ request-fits s (Q.Create path mode) ws h = let o = enum.owed T.the-type T′.the
 request-fits s (Q.Release path handle) ws h = let o = enum.owed T.the-type T′.the-laws (Q.Release path handle) ws h in text (u64 none (o .1 .0 .1))
 request-fits s (Q.Unlink path) ws h = text none
 request-fits s (Q.Read path buffer-size offset handle) ws h = let o = enum.owed T.the-type T′.the-laws (Q.Read path buffer-size offset handle) ws h in text (u32 (u64 (u64 none (o .1 .1 .1 .0 .1)) (o .1 .1 .0 .1)) (o .1 .0 .1))
-request-fits s (Q.Write content offset handle) ws h = let o = enum.owed T.the-type T′.the-laws (Q.Write content offset handle) ws h in any (u64 (u64 none (o .1 .1 .0 .1)) (o .1 .0 .1))
+request-fits s (Q.Write path content offset handle) ws h = let o = enum.owed T.the-type T′.the-laws (Q.Write path content offset handle) ws h in text (any (u64 (u64 none (o .1 .1 .1 .0 .1)) (o .1 .1 .0 .1)))
 request-fits s (Q.Mkdir path mode) ws h = let o = enum.owed T.the-type T′.the-laws (Q.Mkdir path mode) ws h in text (u32 none (o .1 .0 .1))
 request-fits s (Q.Readdir path) ws h = text none
 request-fits s (Q.Rmdir path) ws h = text none

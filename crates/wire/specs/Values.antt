@@ -35,13 +35,16 @@ statisticsValues s =
     ∷ number (s .namemax)
     ∷ []
 
--- the values of rename, read and utimens requests, named so that contracts stay short
+-- the values of rename, read, write and utimens requests, named so that contracts stay short
 module _ {A : Type 0} where
   abbrev pub renameValues : A → A → ℕ → List (Value A)
   renameValues old new flags = run old ∷ run new ∷ number flags ∷ []
 
   abbrev pub readValues : A → ℕ → ℕ → ℕ → List (Value A)
   readValues path size offset handle = run path ∷ number size ∷ number offset ∷ number handle ∷ []
+
+  abbrev pub writeValues : A → A → ℕ → ℕ → List (Value A)
+  writeValues path content offset handle = run path ∷ run content ∷ number offset ∷ number handle ∷ []
 
   abbrev pub utimensValues : A → Timestamp → Timestamp → ℕ → List (Value A)
   utimensValues path atime mtime handle = run path ∷ timeValues atime (timeValues mtime (number handle ∷ []))

@@ -69,7 +69,7 @@ use core::fmt;
 use numbers::acts;
 
 /// The version of the exported functions that this crate is written for.
-pub const VERSION: u32 = 2;
+pub const VERSION: u32 = 3;
 
 /// The length of the longest message.
 pub const LONGEST: usize = 65_536;

@@ -208,7 +208,8 @@ pub fn list_request(message: &[u8], out: &mut [u8]) -> Written {
 }
 
 /// Writes a known request. `numbers` are its number fields in the order of document 01's table, each in the low bits of
-/// its word; `first` and `second` are its texts or data. What a type does not have is not looked at.
+/// its word; `first` and `second` are its texts or data: of a write request, the path and the data. What a type does not
+/// have is not looked at.
 #[inline]
 pub fn write_request(
     id: u32,
@@ -432,7 +433,7 @@ impl<'a> NamePosition<'a> {
 #[inline]
 const fn has_text(shape: u32, type_number: u8, cell: usize) -> bool {
     match (shape, cell) {
-        (shapes::KNOWN, 0) => matches!(type_number, types::ACCESS..=types::READ | types::MKDIR..=types::UTIMENS),
+        (shapes::KNOWN, 0) => matches!(type_number, types::ACCESS..=types::UTIMENS),
         (shapes::KNOWN, 2) => matches!(type_number, types::SYMLINK | types::LINK | types::RENAME),
         (shapes::SUCCESS, 0) => matches!(type_number, types::GETCREDS_REPLY),
         (shapes::SUCCESS, 1) => matches!(type_number, types::READLINK_REPLY),
@@ -463,9 +464,9 @@ unsafe fn text_of(bytes: &[u8]) -> &str {
 mod tests {
     use super::*;
 
-    /// Data that is no text, in a request and in a reply.
-    const WRITE_REQUEST: [u8; 26] =
-        [0, 0, 0, 1, types::WRITE, 0, 0, 0, 1, 0x80, 0, 0, 0, 0, 0, 0, 0, 0, 0, 0, 0, 0, 0, 0, 0, 0];
+    /// Data that is no text, in a request behind an empty path and in a reply.
+    const WRITE_REQUEST: [u8; 30] =
+        [0, 0, 0, 1, types::WRITE, 0, 0, 0, 0, 0, 0, 0, 1, 0x80, 0, 0, 0, 0, 0, 0, 0, 0, 0, 0, 0, 0, 0, 0, 0, 0];
     const READ_REPLY: [u8; 14] = [0, 0, 0, 1, types::READ_REPLY, 0, 0, 0, 1, 0, 0, 0, 1, 0x80];
 
     /// A readdir reply, and a failure of readdir with a name behind its result.
@@ -495,7 +496,7 @@ mod tests {
         ("S u64", "i32"),                     // release
         ("S", "i32"),                         // unlink
         ("S u32 u64 u64", "i32 bytes"),       // read
-        ("bytes u64 u64", "i32"),             // write
+        ("S bytes u64 u64", "i32"),           // write
         ("S u32", "i32"),                     // mkdir
         ("S", "i32 strings"),                 // readdir
         ("S", "i32"),                         // rmdir
@@ -564,7 +565,7 @@ mod tests {
                 assert_eq!(accepted.text(cell), "");
             }
         }
-        assert_eq!(request(&WRITE_REQUEST).data(0), [0x80]);
+        assert_eq!(request(&WRITE_REQUEST).data(2), [0x80]);
         assert_eq!(reply(&READ_REPLY).data(1), [0x80]);
     }
 

@@ -39,7 +39,7 @@ pub enum Request<'a> {
     /// Read at most `buffer_size` bytes from `offset` on.
     Read { path: &'a str, buffer_size: u32, offset: u64, handle: u64 },
     /// Write `data` from `offset` on.
-    Write { data: &'a [u8], offset: u64, handle: u64 },
+    Write { path: &'a str, data: &'a [u8], offset: u64, handle: u64 },
     /// Make a directory.
     Mkdir { path: &'a str, mode: u32 },
     /// The names in a directory.
@@ -137,7 +137,7 @@ fn body<'a>(a: &Accepted<'a>) -> Request<'a> {
         types::READ => {
             Request::Read { path: a.text(0), buffer_size: a.number(2) as u32, offset: a.number(3), handle: a.number(4) }
         }
-        types::WRITE => Request::Write { data: a.data(0), offset: a.number(2), handle: a.number(3) },
+        types::WRITE => Request::Write { path: a.text(0), data: a.data(2), offset: a.number(4), handle: a.number(5) },
         types::MKDIR => Request::Mkdir { path: a.text(0), mode: a.number(2) as u32 },
         types::READDIR => Request::Readdir { path: a.text(0) },
         types::RMDIR => Request::Rmdir { path: a.text(0) },
@@ -228,7 +228,9 @@ impl<'a> Given<'a> {
             Request::Read { path, buffer_size, offset, handle } => {
                 Given::text(path, [buffer_size as u64, offset, handle, 0, 0])
             }
-            Request::Write { data, offset, handle } => Given::new(data, &[], [offset, handle, 0, 0, 0]),
+            Request::Write { path, data, offset, handle } => {
+                Given::new(path.as_bytes(), data, [offset, handle, 0, 0, 0])
+            }
             Request::Utimens { path, atime, mtime, handle } => {
                 Given::text(path, [atime.seconds, atime.nsec as u64, mtime.seconds, mtime.nsec as u64, handle])
             }

@@ -49,7 +49,10 @@ const REQUESTS: [(Request<'static>, &str); METHODS + 4] = [
         Request::Read { path: PATH, buffer_size: 0x1000, offset: 0x100, handle: 2 },
         "10 00000002 2f61 00001000 0000000000000100 0000000000000002",
     ),
-    (Request::Write { data: &[0xff, 0], offset: 5, handle: 6 }, "11 00000002 ff00 0000000000000005 0000000000000006"),
+    (
+        Request::Write { path: PATH, data: &[0xff, 0, 1], offset: 5, handle: 6 },
+        "11 00000002 2f61 00000003 ff0001 0000000000000005 0000000000000006",
+    ),
     (Request::Mkdir { path: PATH, mode: 0x1ed }, "12 00000002 2f61 000001ed"),
     (Request::Readdir { path: PATH }, "13 00000002 2f61"),
     (Request::Rmdir { path: PATH }, "14 00000002 2f61"),
@@ -250,9 +253,9 @@ fn texts_data_and_names_are_parts_of_the_message() {
     let Request::Link { old_path, new_path } = read_request(&link).unwrap().body else { panic!() };
     assert_eq!((place(&link, old_path.as_bytes()), place(&link, new_path.as_bytes())), (HEADER + 4, HEADER + 10));
 
-    let write = message("11 00000002 ff00 0000000000000005 0000000000000006");
-    let Request::Write { data, .. } = read_request(&write).unwrap().body else { panic!() };
-    assert_eq!(place(&write, data), HEADER + 4);
+    let write = message("11 00000002 2f61 00000003 ff0001 0000000000000005 0000000000000006");
+    let Request::Write { path, data, .. } = read_request(&write).unwrap().body else { panic!() };
+    assert_eq!((place(&write, path.as_bytes()), place(&write, data)), (HEADER + 4, HEADER + 10));
 
     let creds = message("97 00000004 75736572");
     let Reply::Credentials { creds: text } = read_reply(&creds).unwrap().body else { panic!() };
@@ -366,7 +369,7 @@ fn the_linked_version_fits() {
     assert_eq!(check_version(), Ok(()));
     assert_eq!(tushalets::raw::version(), VERSION);
     let wrong = WrongVersion { linked: 9 };
-    assert_eq!(wrong.to_string(), "the linked library has version 9, this crate is written for 2");
+    assert_eq!(wrong.to_string(), "the linked library has version 9, this crate is written for 3");
 }
 
 #[test]

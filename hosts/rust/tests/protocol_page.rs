@@ -326,16 +326,16 @@ fn a_field_without_its_kind_is_seen() {
 }
 
 #[test]
-#[should_panic(expected = "in the row of write: `; a path`")]
+#[should_panic(expected = "in the row of write: `; and more`")]
 fn words_behind_the_fields_of_a_request_are_seen() {
-    let page = altered(PAGE, "`offset u64`, `handle u64` | none", "`offset u64`, `handle u64`; a path | none");
+    let page = altered(PAGE, "`offset u64`, `handle u64` | none", "`offset u64`, `handle u64`; and more | none");
     differences(DEFINITIONS, &page);
 }
 
 #[test]
 fn a_changed_definition_is_seen() {
     let alterations: [Alteration; 7] = [
-        (&["write"], "row Write = ", "row Write = path ∷ "),
+        (&["write"], "row Write = path ∷ \"data\" is bytes", "row Write = \"data\" is bytes ∷ path"),
         (&["mknod"], "\"dev\" is num u64", "\"dev\" is num u32"),
         (&["link", "rename"], "\"new_path\"", "\"to_path\""),
         (&["chmod"], "requestNumber Chmod = 0x07", "requestNumber Chmod = 0x27"),

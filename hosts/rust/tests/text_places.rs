@@ -12,15 +12,19 @@ use tushalets::{front, list_request, read_reply, read_request, Fronted, Refusal,
 
 const ROUNDS: usize = 40_000;
 
-/// The types of messages by what they have: a text; two texts; a resolved path, credentials, names.
+/// The types of messages by what they have: a text; two texts; a text and data; a resolved path, credentials, names.
 const ONE_TEXT: [u8; 5] = [0x02, 0x03, 0x0f, 0x13, 0x15];
 const TWO_TEXTS: [u8; 2] = [0x04, 0x05];
+const WRITE: u8 = 0x11;
 const READLINK_REPLY: u8 = 0x83;
 const READDIR_REPLY: u8 = 0x93;
 const GETCREDS_REPLY: u8 = 0x97;
 
 const LENGTH_SIZE: usize = 4;
 const RESULT: [u8; 4] = [0; 4];
+
+/// What stands behind the path of a write request: one byte of data that is no text, offset and handle.
+const BEHIND_PATH: [u8; 21] = [0, 0, 0, 1, 0xff, 0, 0, 0, 0, 0, 0, 0, 0, 0, 0, 0, 0, 0, 0, 0, 0];
 
 /// A message, and where the bytes of the text begin that is tried.
 struct Tried {
@@ -97,9 +101,11 @@ fn texts_of_requests() {
         let first = string(&good_text(&mut random));
         let two = any(&mut random, TWO_TEXTS);
         Tried::new(two, &first, &text, behind(&mut random)).compare_request();
-        // A bad first text is refused before the second is looked at.
+        Tried::new(WRITE, &[], &text, &BEHIND_PATH).compare_request();
+        // A bad first text is refused before the second text, or the length of the data, is looked at.
         if core::str::from_utf8(&text).is_err() {
             Tried::new(two, &[], &text, &string(&[0xff])).compare_request();
+            Tried::new(WRITE, &[], &text, &[0xff]).compare_request();
         }
     }
 }

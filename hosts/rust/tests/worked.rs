@@ -11,7 +11,7 @@ use tushalets::{front, list_request, raw, Fronted, LONGEST, LONGEST_LISTING};
 /// A label, and a message in hex.
 type Row = (&'static str, &'static str);
 
-const REQUESTS: [Row; 26] = [
+const REQUESTS: [Row; 35] = [
     ("empty", ""),
     ("four bytes", "00000001"),
     ("getattr", "00000001 02 00000001 2f"),
@@ -38,6 +38,18 @@ const REQUESTS: [Row; 26] = [
     ("access, broken off, its other byte behind", "00000001 01 00000003 6162c3 a9"),
     ("rename, second text broken behind é", "00000001 06 00000000 00000004 c3a9c328 00"),
     ("link, both texts bad", "00000001 05 00000002 61ff 00000001 80"),
+    ("write", "00000001 11 00000002 2f66 00000003 78797a 0000000000000005 0000000000000006"),
+    (
+        "write, nothing in both runs, bytes behind",
+        "00000001 11 00000000 00000000 0000000000000005 0000000000000006 ffff",
+    ),
+    ("write, data no text", "00000001 11 00000001 2f 00000001 80 0000000000000005 0000000000000006"),
+    ("write, bad path and a data length that lies", "00000001 11 00000003 2f66ff ffffffff 78"),
+    ("write, a data length that lies", "00000001 11 00000002 2f66 ffffffff 78"),
+    ("write, a path length that lies", "00000001 11 ffffffff 2f66 00000000 0000000000000005 0000000000000006"),
+    ("write of the page, its data read as the path", "00000001 11 00000003 78797a 0000000000000005 0000000000000006"),
+    ("write of the page, four bytes behind", "00000001 11 00000003 78797a 0000000000000005 0000000000000006 00000007"),
+    ("write of the page, data no text", "00000001 11 00000003 78ff7a 0000000000000005 0000000000000006"),
 ];
 
 /// The page's readdir reply.
@@ -86,24 +98,27 @@ const NAMES: [(&str, &str, usize); 6] = [
     ("names of an empty message", "", 2),
 ];
 
-const FRONTS: [Row; 6] = [
+const FRONTS: [Row; 8] = [
     ("front, unknown 42", "00000023 42"),
     ("front, unknown ff", "00000023 ff"),
     ("front, unlink with bad text", "00000005 0f 00000001 80"),
     ("front, getattr with a short path", "00000001 02 00000002 2f"),
     ("front, four bytes", "00000001"),
     ("front, getattr", "00000001 02 00000001 2f"),
+    ("front, write with a bad path", "00000005 11 00000001 80 00000000 0000000000000005 0000000000000006"),
+    ("front, write", "00000005 11 00000001 2f 00000000 0000000000000005 0000000000000006"),
 ];
 
 /// The sizes of the buffers that are lent to the front.
 const ROOMS: [usize; 6] = [0, 4, 5, 8, 9, 12];
 
-const LISTINGS: [&str; 9] = [
+const LISTINGS: [&str; 10] = [
     "00000007 01 00000002 2f61 04",
     "00000007 01 00000000 ff",
     "00000001 0a 00000001 2f 07 ffffffffffffffff 0a",
     "00000001 16 00000001 2f 0000000000000005 00000006 0000000000000007 00000008 0000000000000009",
     "ffffffff 17",
+    "00000001 11 00000002 2f66 00000003 78797a 0000000000000005 0000000000000006 00",
     "00000023 42 00",
     "00000005 0f 00000001 80",
     "0000000d 0b 00000014 2f6a6f62732f636166 e9 2f636172642d30303031 00000000",

@@ -46,8 +46,8 @@ const REQUESTS: [(u32, Request<'_>); 30] = [
     (13, Request::Truncate { path: "/", size: 0x0102_0304_0506_0708, handle: 9 }),
     (14, Request::Release { path: "/", handle: 1 }),
     (15, Request::Read { path: "/", buffer_size: 4096, offset: 0x1_0000_0000, handle: 2 }),
-    (16, Request::Write { data: b"xyz", offset: 5, handle: 6 }),
-    (17, Request::Write { data: b"", offset: 0, handle: 0 }),
+    (16, Request::Write { path: "/f", data: b"xyz", offset: 5, handle: 6 }),
+    (17, Request::Write { path: "", data: b"", offset: 0, handle: 0 }),
     (18, Request::Utimens { path: "/", atime: time(5, 6), mtime: time(7, 0xffff_ffff), handle: 9 }),
     (0xffff_ffff, Request::Getcreds),
     (0x23, Request::Unknown { type_number: 0x42 }),
@@ -264,11 +264,12 @@ fn lengths_mismatches() -> Tried {
 fn malformed_requests() -> Tried {
     const BAD: &[u8] = b"\xc0\x80";
     show_all(
-        "write 5: getattr, the first path of rename, the second of symlink",
+        "write 5: getattr, the first path of rename, the second of symlink, the path of write",
         [
             written_raw(ROOM, 1, types::GETATTR, BAD, b""),
             written_raw(ROOM, 1, types::RENAME, BAD, b"a"),
             written_raw(ROOM, 1, types::SYMLINK, b"a", BAD),
+            written_raw(ROOM, 1, types::WRITE, BAD, b"a"),
         ],
     )
 }
@@ -294,7 +295,7 @@ fn data_length_mismatches() -> Tried {
         [
             replied(ROOM, 9, &read(256, &[0; 112])),
             replied(ROOM, 9, &read(0, b"a")),
-            written(ROOM, 1, &Request::Write { data: b"\xff\x80", offset: 0, handle: 0 }),
+            written(ROOM, 1, &Request::Write { path: "/", data: b"\xff\x80", offset: 0, handle: 0 }),
         ],
     )
 }

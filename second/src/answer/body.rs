@@ -1,12 +1,9 @@
 //! Taking a case's body apart.
 
-use crate::answer::LONGEST_SHOWN;
+use crate::answer::{LONGEST_SHOWN, MOST_BYTES};
 use crate::filled::filled;
 use crate::methods::{Field, Kind};
 use crate::value::Value;
-
-/// The longest message, text, data or buffer of a case.
-const LONGEST: usize = 70_000;
 
 /// The most lengths of a readdir case.
 const MOST_LENGTHS: usize = 16_384;
@@ -83,7 +80,7 @@ impl<'a> Body<'a> {
 
     /// The lent buffer with its pattern.
     pub fn buffer(&mut self) -> Taken<Vec<u8>> {
-        self.buffer_up_to(LONGEST)
+        self.buffer_up_to(MOST_BYTES)
     }
 
     /// The lent buffer of an `s` case.
@@ -98,7 +95,7 @@ impl<'a> Body<'a> {
 
     /// A message: its length, the fill, and the rest of the body as prefix.
     pub fn message(&mut self) -> Taken<Vec<u8>> {
-        let whole = self.size(LONGEST)?;
+        let whole = self.size(MOST_BYTES)?;
         let fill = self.u8()?;
         let prefix = self.take(self.left.len())?;
         Ok(filled(prefix, whole, fill))
@@ -115,7 +112,7 @@ impl<'a> Body<'a> {
 
     /// A text or data of a writer.
     pub fn run(&mut self) -> Taken<Vec<u8>> {
-        let whole = self.size(LONGEST)?;
+        let whole = self.size(MOST_BYTES)?;
         let fill = self.u8()?;
         let length = self.u32()? as usize;
         let prefix = self.take(length)?;

@@ -17,6 +17,9 @@ use body::Body;
 /// The longest body of a case.
 pub const LONGEST_BODY: usize = 200_000;
 
+/// The longest message, text, data or buffer of a case.
+pub const MOST_BYTES: usize = 70_000;
+
 /// The longest message of an `s` or `o` case, and the largest buffer of an `s`
 /// case.
 pub const LONGEST_SHOWN: usize = 1_024;

@@ -16,9 +16,23 @@ pub fn add(out: &mut Vec<Case>) {
     add_counts(out);
 }
 
-/// The lies for a length of that value, whose bytes begin at `start` and of
-/// which `left` are there.
-fn lies(true_one: u32, start: u32, left: u32) -> Vec<u32> {
+/// The length or count that stands at a place of the message.
+fn length_at(draft: &Draft, place: usize) -> u32 {
+    u32::from_be_bytes(draft.bytes[place..place + 4].try_into().unwrap())
+}
+
+/// The message with another length or count at that place.
+pub fn with_length(draft: &Draft, place: usize, length: u32) -> Filled {
+    let mut bytes = draft.bytes.clone();
+    bytes[place..place + 4].copy_from_slice(&length.to_be_bytes());
+    Filled::exact(&bytes)
+}
+
+/// The lies for the length or count at that place.
+pub fn lies(draft: &Draft, place: usize) -> Vec<u32> {
+    let true_one = length_at(draft, place);
+    let start = place as u32 + 4;
+    let left = draft.bytes.len() as u32 - start;
     vec![
         0,
         true_one.wrapping_sub(1),
@@ -38,17 +52,13 @@ fn lies(true_one: u32, start: u32, left: u32) -> Vec<u32> {
 
 fn add_lies(out: &mut Vec<Case>, side: Side, draft: &Draft) {
     for place in &draft.lengths {
-        let start = place + 4;
-        let true_one = u32::from_be_bytes(draft.bytes[*place..start].try_into().unwrap());
-        let left = draft.bytes.len() - start;
-        for lie in lies(true_one, start as u32, left as u32) {
-            let mut bytes = draft.bytes.clone();
-            bytes[*place..start].copy_from_slice(&lie.to_be_bytes());
-            out.push(read(side, &Filled::exact(&bytes)));
-            if lie == true_one + 1 && side == Side::Request {
-                out.push(front(12, &Filled::exact(&bytes)));
+        for lie in lies(draft, *place) {
+            let message = with_length(draft, *place, lie);
+            out.push(read(side, &message));
+            if lie == length_at(draft, *place) + 1 && side == Side::Request {
+                out.push(front(12, &message));
                 // With bytes behind, the longer length may fit.
-                out.push(read(side, &Filled::padded(&bytes, bytes.len() + 3, b'z')));
+                out.push(read(side, &Filled::padded(&message.prefix, message.whole + 3, b'z')));
             }
         }
     }

@@ -25,7 +25,7 @@ pub fn add(out: &mut Vec<Case>) {
     }
 }
 
-/// The first text or data fills the message; the fields behind are zero.
+/// The first text fills the message; the fields behind are zero.
 fn add_request(out: &mut Vec<Case>, method: &Method, whole: usize) {
     let mut prefix = header(4, method.number);
     if method.number != GETCREDS {

@@ -9,8 +9,10 @@ use crate::store::push_run;
 const ID: [u8; 4] = [0x63, 0x64, 0x65, 0x66];
 
 /// What stands between the id and the string, in hex. Behind the string comes
-/// the end of the known part, a number, or the length of another text.
-const REQUESTS: [&str; 7] = ["0f", "01", "07", "16", "06", "06 00000003 6f6c64", "04 00000000"];
+/// the end of the known part, a number, or the length of another text or of
+/// data.
+const REQUESTS: [&str; 8] =
+    ["0f", "01", "07", "16", "06", "06 00000003 6f6c64", "04 00000000", "11"];
 
 /// The same for replies: resolved, creds, and the first, the second and the
 /// last name.

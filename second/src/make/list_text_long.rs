@@ -46,7 +46,7 @@ fn add_text(out: &mut Vec<Case>, turn: usize, text: &[u8]) {
 }
 
 /// The same message with the equal bytes at its end as fill.
-fn shortened(message: Filled) -> Filled {
+pub fn shortened(message: Filled) -> Filled {
     let bytes = message.bytes();
     let fill = bytes[bytes.len() - 1];
     let length = bytes.iter().rposition(|byte| *byte != fill).map_or(0, |last| last + 1);

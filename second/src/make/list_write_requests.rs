@@ -69,9 +69,13 @@ fn add_long(out: &mut Vec<Case>, method: &Method, puts: &[Put], index: usize) {
     out.push(writer_request(method, 3, 2, &over));
 }
 
-/// Two texts that are oversize only together; the second may be bad.
+/// Two texts, or a text and data, that are oversize only together. The second
+/// may be malformed as a text.
 fn add_two_long(out: &mut Vec<Case>) {
-    for method in METHODS.iter().filter(|method| (0x04..=0x06).contains(&method.number)) {
+    let runs = |method: &Method| {
+        method.request.iter().filter(|field| field.kind.width().is_none()).count()
+    };
+    for method in METHODS.iter().filter(|method| runs(method) == 2) {
         let puts = puts(method.request, Style::Counting);
         let first = with_run(&puts, 0, Filled::padded(b"", 40_000, b'd'));
         for prefix in [&b""[..], b"\x80"] {

@@ -9,6 +9,7 @@ mod list_lengths;
 mod list_listing;
 mod list_long;
 mod list_methods;
+mod list_old_writes;
 mod list_results;
 mod list_rows;
 mod list_shown_names;
@@ -26,6 +27,8 @@ mod list_text_places;
 mod list_text_small;
 mod list_types;
 mod list_write_names;
+mod list_write_path_orders;
+mod list_write_paths;
 mod list_write_replies;
 mod list_write_requests;
 mod prng;
@@ -40,6 +43,7 @@ mod random_writers;
 mod strings;
 mod styles;
 mod tables;
+mod writes;
 
 use std::collections::HashSet;
 
@@ -76,6 +80,9 @@ pub fn fixed_list(ops: &str) -> Vec<Case> {
     list_shown_names::add(&mut out);
     list_call::add(&mut out);
     list_text_small::add(&mut out);
+    list_write_paths::add(&mut out);
+    list_write_path_orders::add(&mut out);
+    list_old_writes::add(&mut out);
     let mut met = HashSet::new();
     out.retain(|case| ops.contains(char::from(case.op)) && met.insert(case.framed()));
     out

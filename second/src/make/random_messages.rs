@@ -2,13 +2,20 @@
 
 use crate::make::case::{Filled, Side};
 use crate::make::prng::Prng;
-use crate::make::put::{good_result, reply_draft, request_draft, Draft};
-use crate::make::random_values::{id, number, puts, result};
+use crate::make::put::{good_result, reply_draft, request_draft, Draft, Put};
+use crate::make::random_values::{id, number, puts, result, text};
+use crate::make::writes::old_row;
 use crate::methods::{method_of_request, Method, METHODS, READ, READDIR};
-use crate::store::{header, push};
+use crate::store::{header, push, push_run};
 
 /// So many of a hundred texts are bad.
 const BAD: usize = 7;
+
+/// So many of a hundred requests are writes of the page's row.
+const OLD_WRITES: usize = 2;
+
+/// The most bytes behind such a write.
+const MOST_BEHIND: usize = 24;
 
 pub fn message(prng: &mut Prng, side: Side) -> Filled {
     if prng.chance(1) {
@@ -38,12 +45,31 @@ pub fn damaged(prng: &mut Prng, mut draft: Draft) -> Filled {
 fn draft(prng: &mut Prng, side: Side) -> Draft {
     let id = id(prng);
     if side == Side::Request {
+        if prng.chance(OLD_WRITES) {
+            return old_write(prng, id);
+        }
         let method = &METHODS[prng.below(METHODS.len())];
         let puts = puts(prng, method.request, BAD);
         return request_draft(method, id, &puts);
     }
     let method = reply_method(prng);
     reply(prng, method, id, BAD)
+}
+
+/// A write of the page's row, without a path, most often with data that can be
+/// read as one. With bytes behind it some are accepted.
+fn old_write(prng: &mut Prng, id: u32) -> Draft {
+    let method = old_row();
+    let mut puts = puts(prng, method.request, BAD);
+    if prng.chance(80) {
+        puts[0] = Put::Run(Filled::exact(&text(prng, BAD)));
+    }
+    let mut draft = request_draft(&method, id, &puts);
+    if prng.chance(50) {
+        let more = prng.between(1, MOST_BEHIND);
+        draft.bytes.resize(draft.bytes.len() + more, prng.byte());
+    }
+    draft
 }
 
 /// A reply to a request of this method, with results of all kinds. So many of
@@ -127,13 +153,19 @@ fn lie(prng: &mut Prng, draft: &mut Draft) {
 }
 
 /// A message around the greatest length whose first text, data or list goes
-/// to its end or nearly so.
+/// to its end or nearly so; of two texts, or a text and data, it may be the
+/// second.
 fn long(prng: &mut Prng, side: Side) -> Filled {
     let method: &Method = &METHODS[prng.below(METHODS.len())];
     let whole = prng.between(65_530, 65_538);
-    let rest = prng.pick(&[0, 0, 1, 4, 8, 16, 40]);
+    let rest = prng.pick(&[0, 0, 1, 4, 8, 16, 20, 40]);
     let mut prefix = header(id(prng), method.number);
-    if side == Side::Reply {
+    if side == Side::Request {
+        let second = method.request.get(1).is_some_and(|field| field.kind.width().is_none());
+        if second && prng.chance(50) {
+            push_run(&mut prefix, &text(prng, 0));
+        }
+    } else {
         prefix = header(id(prng), method.reply_number());
         if prng.chance(80) {
             push(&mut prefix, 4, if prng.chance(50) { 0 } else { (whole - 13 - rest) as u64 });

@@ -4,6 +4,7 @@
 pub mod records;
 pub mod strings;
 pub mod tables;
+pub mod writes;
 
 use second::filled::filled;
 use second::hash::hash;
@@ -101,6 +102,11 @@ pub fn elements(message: &[u8], mut at: usize, fields: &[Field]) -> Vec<(usize, 
 
 pub fn length_at(message: &[u8], at: usize) -> usize {
     u32::from_be_bytes(message[at..at + 4].try_into().unwrap()) as usize
+}
+
+/// The lent buffer of a case as it was before.
+pub fn lent(length: usize) -> Vec<u8> {
+    (0..length).map(|index| ((index * 7 + 3) % 251) as u8).collect()
 }
 
 /// A lent buffer whose bytes all differ from their neighbours.

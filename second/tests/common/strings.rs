@@ -4,9 +4,10 @@
 use std::ops::{Range, RangeInclusive};
 use std::str::{from_utf8, Utf8Error};
 
+use second::make::case::Case;
 use second::methods::{method_of_reply, method_of_request, Field, Kind, GETCREDS};
 
-use super::length_at;
+use super::{length_at, message_at};
 
 /// The lengths of the shortest and the longest message that a reader looks at.
 const LENGTHS: RangeInclusive<usize> = 5..=65_536;
@@ -15,6 +16,20 @@ const LENGTHS: RangeInclusive<usize> = 5..=65_536;
 pub enum Side {
     Request,
     Reply,
+}
+
+/// The message of a case that hands one to a reader, and its side.
+pub fn message_of(case: &Case) -> Option<(Side, Vec<u8>)> {
+    let body = &case.body;
+    let side = || if body[0] == 0 { Side::Request } else { Side::Reply };
+    Some(match case.op {
+        b'q' => (Side::Request, message_at(body, 0)),
+        b'p' => (Side::Reply, message_at(body, 0)),
+        b'l' | b'f' => (Side::Request, message_at(body, 4)),
+        b'g' => (side(), message_at(body, 5)),
+        b's' => (side(), body[5..].to_vec()),
+        _ => return None,
+    })
 }
 
 /// A malformed string: which of the message's strings it is, where it stands,

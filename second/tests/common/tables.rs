@@ -128,17 +128,25 @@ fn answers(line: &str) -> Vec<(String, u64)> {
 }
 
 /// The bytes of a body that are left.
-struct Bytes<'a>(&'a [u8]);
+pub struct Bytes<'a>(pub &'a [u8]);
 
 impl<'a> Bytes<'a> {
-    fn take(&mut self, length: usize) -> &'a [u8] {
+    pub fn take(&mut self, length: usize) -> &'a [u8] {
         let (taken, left) = self.0.split_at(length);
         self.0 = left;
         taken
     }
 
-    fn number(&mut self, width: usize) -> u32 {
+    pub fn number(&mut self, width: usize) -> u32 {
         self.take(width).iter().fold(0, |number, byte| number << 8 | u32::from(*byte))
+    }
+
+    /// A text, data or message, given as a prefix and a fill.
+    pub fn run(&mut self) -> Vec<u8> {
+        let whole = self.number(4) as usize;
+        let fill = self.number(1) as u8;
+        let length = self.number(4) as usize;
+        filled(self.take(length), whole, fill)
     }
 
     fn record(&mut self) -> Held {
@@ -154,12 +162,7 @@ impl<'a> Bytes<'a> {
             b'e' => Called::Empty,
             b'n' => Called::Enter(self.number(4), self.number(1) as u8),
             b'k' => Called::Look(self.number(4)),
-            b'a' => {
-                let whole = self.number(4) as usize;
-                let fill = self.number(1) as u8;
-                let length = self.number(4) as usize;
-                Called::Arrive(filled(self.take(length), whole, fill))
-            }
+            b'a' => Called::Arrive(self.run()),
             other => panic!("no such call: {other}"),
         }
     }

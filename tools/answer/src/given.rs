@@ -21,7 +21,7 @@ impl<const N: usize> Given<N> {
         let (mut numbers, mut runs) = (given.numbers.iter_mut(), given.runs.iter_mut());
         for kind in kinds {
             if let Kind::Run = kind {
-                *runs.next().expect("a method has at most two texts") = body.run()?;
+                *runs.next().expect("a method has at most two texts or data") = body.run()?;
             } else {
                 *numbers.next().expect("a method has at most N numbers") = take_number(body, *kind)?;
             }
@@ -54,10 +54,11 @@ fn text(bytes: &[u8]) -> Option<&str> {
 /// The request of this type; none where a text is malformed, for a `str` cannot hold it.
 pub fn request(type_number: u8, given: &GivenRequest) -> Option<Request<'_>> {
     let Given { numbers: n, runs: [first, second] } = given;
+    let path = text(first)?;
     if type_number == WRITE {
-        return Some(Request::Write { data: first, offset: n[0], handle: n[1] });
+        return Some(Request::Write { path, data: second, offset: n[0], handle: n[1] });
     }
-    let (path, other) = (text(first)?, text(second)?);
+    let other = text(second)?;
     Some(match type_number {
         ACCESS => Request::Access { path, mode: n[0] as i8 },
         GETATTR => Request::Getattr { path },

@@ -190,7 +190,7 @@ fn request<'a>(type_number: u8, r: &mut Reader<'a>) -> Result<Request<'a>, Refus
         types::RELEASE => Request::Release { path: r.text()?, handle: r.u64()? },
         types::UNLINK => Request::Unlink { path: r.text()? },
         types::READ => Request::Read { path: r.text()?, buffer_size: r.u32()?, offset: r.u64()?, handle: r.u64()? },
-        types::WRITE => Request::Write { data: r.data()?, offset: r.u64()?, handle: r.u64()? },
+        types::WRITE => Request::Write { path: r.text()?, data: r.data()?, offset: r.u64()?, handle: r.u64()? },
         types::MKDIR => Request::Mkdir { path: r.text()?, mode: r.u32()? },
         types::READDIR => Request::Readdir { path: r.text()? },
         types::RMDIR => Request::Rmdir { path: r.text()? },

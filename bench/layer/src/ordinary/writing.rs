@@ -92,17 +92,11 @@ fn check_text(text: &[u8]) -> Result<(), Refusal> {
     Ok(())
 }
 
-/// A request that begins with a text.
+/// A request that begins with a text, and has so many bytes behind it.
 #[inline]
-fn one_text<'a>(
-    id: u32,
-    type_number: u8,
-    text: &str,
-    numbers: usize,
-    out: &'a mut [u8],
-) -> Result<Writer<'a>, Refusal> {
+fn one_text<'a>(id: u32, type_number: u8, text: &str, rest: usize, out: &'a mut [u8]) -> Result<Writer<'a>, Refusal> {
     check_text(text.as_bytes())?;
-    let w = Writer::start(id, type_number, LENGTH_SIZE + text.len() + numbers, out)?;
+    let w = Writer::start(id, type_number, LENGTH_SIZE + text.len() + rest, out)?;
     Ok(w.run(text.as_bytes()))
 }
 
@@ -150,8 +144,8 @@ pub fn write_request(id: u32, request: &Request<'_>, out: &mut [u8]) -> Result<u
         Request::Read { path, buffer_size, offset, handle } => {
             one_text(id, t, path, U32 + 2 * U64, out)?.u32(buffer_size).u64(offset).u64(handle)
         }
-        Request::Write { data, offset, handle } => {
-            Writer::start(id, t, LENGTH_SIZE + data.len() + 2 * U64, out)?.run(data).u64(offset).u64(handle)
+        Request::Write { path, data, offset, handle } => {
+            one_text(id, t, path, LENGTH_SIZE + data.len() + 2 * U64, out)?.run(data).u64(offset).u64(handle)
         }
         Request::Utimens { path, atime, mtime, handle } => {
             let w = one_text(id, t, path, 2 * TIMESTAMP_SIZE + U64, out)?;

@@ -7,7 +7,8 @@ use Rattle.request_lines.proofs.put_write.Tie as tie
 returns : tie.Need-returns
 returns c =
     let early = c .before .before .before .before .before .before .before in
-    more (early .before .before .before .before .before .put-number .ensures) (more (early .put-number2 .ensures) (more (c .before .before .put-number3 .ensures) none))
+    let earlier = early .before .before .before .before .before .before .before .before .before .before in
+    more (earlier .put-number .ensures) (more (early .before .before .before .before .before .put-number2 .ensures) (more (early .put-number3 .ensures) (more (c .before .before .put-number4 .ensures) none)))
 
 pub put-write-spec : {M : Type 1} → statement M
-put-write-spec = tie.close (tie.spec (λ c. search needs) (λ c κs. search needs) (λ c. search needs) (λ c κs. search needs) (λ c. search needs) (λ c κs. search needs) (λ c. search needs) returns)
+put-write-spec = tie.close (tie.spec (λ c. search needs) (λ c κs. search needs) (λ c. search needs) (λ c κs. search needs) (λ c. search needs) (λ c κs. search needs) (λ c. search needs) (λ c κs. search needs) (λ c. search needs) returns)

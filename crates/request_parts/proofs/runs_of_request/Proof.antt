@@ -49,7 +49,7 @@ runs-of-request-spec =
     (λ c. rw (c .before .before .request14 .given .1) (c .only-path11 .ensures))
     (λ c. rw (c .before .before .request15 .given .1) (c .only-path12 .ensures))
     (λ c. rw (c .before .before .request16 .given .1) (c .only-path13 .ensures))
-    (λ c. rw (c .before .before .request17 .given .1) (c .only-data .ensures))
+    (λ c. rw (c .before .before .request17 .given .1) (c .path-and-data .ensures))
     (λ c. rw (c .before .before .request18 .given .1) (c .only-path14 .ensures))
     (λ c. rw (c .before .before .request19 .given .1) (c .only-path15 .ensures))
     (λ c. rw (c .before .before .request20 .given .1) (c .only-path16 .ensures))

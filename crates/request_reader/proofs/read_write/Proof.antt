@@ -13,4 +13,4 @@ unfolding plan ofRequest
 returns c = answered (c .finish .ensures) refl refl (search (more, none))
 
 pub read-write-spec : {M : Type 1} → statement M
-read-write-spec = tie.close (tie.spec (λ c κs. search needs) (λ c κs. search needs) (λ c κs. search needs) (λ c κs. search needs) returns)
+read-write-spec = tie.close (tie.spec (λ c κs. search needs) (λ c κs. search needs) (λ c κs. search needs) (λ c κs. search needs) (λ c κs. search needs) returns)

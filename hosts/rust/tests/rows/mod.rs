@@ -1,5 +1,5 @@
 //! What the worked rows are made of: messages from hex, lent buffers, and the words for an answer.
-#![allow(dead_code)] // Each test uses some of these.
+#![allow(dead_code, unused_imports)] // Each test uses some of these.
 
 mod fields;
 
