@@ -1,6 +1,8 @@
 // Demand 3 of the running functions: both readers, the parts, the names iterator and the front are run on two messages. Where the second
 // agrees with the first in its known part, they are promised to answer the same; where the second is a cut of the first, the refusal of
 // the first number or run that is no longer whole.
+#![tactic(auto)]
+
 ghost use Rattle.std.specs.Prelude.{◌≡◌};
 ghost use Rattle.names.specs.Positions.{nth_name};
 ghost use Rattle.request_reader.specs.Answers.{answer_of as request_answer};

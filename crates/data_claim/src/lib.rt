@@ -1,5 +1,7 @@
 // A reply to a read never claims a number of bytes other than the number that it carries (demand 2), of the running functions: of the reader
 // on any message, and of the writer, whose reply is read.
+#![tactic(auto)]
+
 ghost use Rattle.std.specs.Prelude.{take};
 ghost use Rattle.layout.specs.Writing.{length_of};
 ghost use Rattle.message_writer.specs.Writers.{told_of};

@@ -1,4 +1,6 @@
 // What README.md shows of the use from Rattle: a provider's turn, and a loop over the names of a readdir reply.
+#![tactic(auto)]
+
 ghost use Rattle.std.specs.Prelude.{◌≡◌};
 ghost use Rattle.layout.specs.Writing.{length_of};
 ghost use Rattle.message_writer.specs.Writers.{told_of};

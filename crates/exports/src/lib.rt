@@ -1,5 +1,7 @@
 // What a host in C, C++ or Rust is answered: structs of numbers, returned by value. The functions stand in the crates
 // exports_reading, exports_requests, exports_replies, exports_front, exports_listing, exports_outstanding and exports_text.
+#![tactic(auto)]
+
 ghost use Rattle.std.specs.Prelude.{◌≡◌};
 ghost use Rattle.message_writer.specs.Writers.{told_of};
 ghost use Rattle.exports.specs.Shown.{written_of};

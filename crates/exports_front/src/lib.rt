@@ -1,4 +1,6 @@
 // For a host: the provider's front.
+#![tactic(auto)]
+
 ghost use Rattle.std.specs.Prelude.{◌≡◌};
 ghost use Rattle.layout.specs.Front.{front as layout_front};
 ghost use Rattle.front.specs.Acts.{act_of};

@@ -1,4 +1,6 @@
 // For a host: the listing of a request.
+#![tactic(auto)]
+
 ghost use Rattle.std.specs.Prelude.{◌≡◌};
 ghost use Rattle.request_listing.specs.Listing.{listed};
 ghost use Rattle.exports.specs.Shown.{written_of};

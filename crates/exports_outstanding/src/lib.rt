@@ -1,4 +1,6 @@
 // For a host: the table of outstanding requests, in words that the host lends. `outstanding_words` says what a word is.
+#![tactic(auto)]
+
 ghost use Rattle.std.specs.Prelude.{◌≡◌, List, map, ℕ, set};
 ghost use Rattle.outstanding.specs.Calls.{empty as empty_in, enter as enter_in, look as look_at, seen as seen_of};
 ghost use Rattle.outstanding_decisions.specs.Decisions as decided;

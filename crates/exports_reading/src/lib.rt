@@ -1,4 +1,6 @@
 // For a host: requests and replies read, and the names of a readdir reply taken one after another.
+#![tactic(auto)]
+
 ghost use Rattle.std.specs.Prelude.{◌≡◌, List, [], ◌∷◌, ℕ};
 ghost use Rattle.number.specs.TwosComplement.{bits_of};
 ghost use Rattle.layout.specs.Table.{request as request_side, reply as reply_side};

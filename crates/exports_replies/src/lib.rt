@@ -1,5 +1,7 @@
 // For a host: replies written. The fields behind the result are given by numbers, in the order of the page and each in the low bits of its
 // word, and by slices for text, data and names. Numbers behind the last field, and slices that the type does not have, are not looked at.
+#![tactic(auto)]
+
 ghost use Rattle.std.specs.Prelude.{◌≡◌, [], ◌∷◌, true};
 ghost use Rattle.layout.specs.Table.{reply, unknown_response};
 ghost use Rattle.layout.specs.Values.{signed};

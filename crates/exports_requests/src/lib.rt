@@ -1,5 +1,7 @@
 // For a host: requests written. The fields of a type are given by numbers, in the order of the page and each in the low bits of its
 // word, and by slices for texts and data. Numbers behind the last field, and slices that the type does not have, are not looked at.
+#![tactic(auto)]
+
 ghost use Rattle.std.specs.Prelude.{◌≡◌, [], true};
 ghost use Rattle.layout.specs.Table.{request};
 ghost use Rattle.layout.specs.Reading.{unknown};

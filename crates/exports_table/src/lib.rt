@@ -1,5 +1,7 @@
 // For a host: requests and replies read by the second reader. The answers are those of `tushalets_read_request` and `tushalets_read_reply`, so
 // that a host can compare the two readers.
+#![tactic(auto)]
+
 ghost use Rattle.std.specs.Prelude.{◌≡◌, List, [], ◌∷◌, ◌++◌, ℕ, ◌%◌, take};
 ghost use Rattle.layout.specs.Kinds.{kinds};
 ghost use Rattle.layout.specs.Table.{request as request_side, reply as reply_side};

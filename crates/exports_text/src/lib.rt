@@ -1,4 +1,6 @@
 // For a host: the version of the exports, and the text check by itself.
+#![tactic(auto)]
+
 ghost use Rattle.std.specs.Prelude.{◌≡◌};
 ghost use Rattle.text.specs.Utf8.{well_formed_end};
 ghost use Rattle.exports.specs.Shown.{version};

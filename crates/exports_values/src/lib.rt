@@ -1,4 +1,6 @@
 // For the writers of a host: the values of fields by words of 64 bits.
+#![tactic(auto)]
+
 ghost use Rattle.std.specs.Prelude.{◌≡◌, [], not, ◌%◌, eqb};
 ghost use Rattle.number.specs.TwosComplement.{signed_of};
 ghost use Rattle.layout.specs.Kinds.{kinds, attributes, statistics};

@@ -1,4 +1,6 @@
 // The lines of a message's fields, a line for each field of its row. For requests and replies.
+#![tactic(auto)]
+
 ghost use Rattle.std.specs.Prelude.{◌≡◌, List, ℕ, ◌%◌, ◌≤◌, length, take};
 ghost use Rattle.number.specs.TwosComplement.{signed_of};
 ghost use Rattle.field_writer.specs.Stored.{Put};

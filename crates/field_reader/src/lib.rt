@@ -1,5 +1,7 @@
 // The fields of a message, read one after another. A cursor is a place, or a refusal, which stays: a field that is read at a
 // refused cursor leaves it as it is. So a message is read in straight lines, and its refusal is settled once, at the end.
+#![tactic(auto)]
+
 ghost use Rattle.std.specs.Prelude.{◌≡◌, true, false, [], ◌+◌};
 ghost use Rattle.layout.specs.Kinds.{u8 as kind_u8, i8 as kind_i8, u32 as kind_u32, i32 as kind_i32, u64 as kind_u64, bool as kind_bool, width, num, string, bytes, strings, time_kinds, kinds, attributes, statistics};
 ghost use Rattle.layout.specs.Values.{part, number as natural, signed, truth, run as run_of, runs};

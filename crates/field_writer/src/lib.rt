@@ -1,6 +1,8 @@
 // The fields of a message, stored one after another at a cursor of the lent buffer. A cursor is a place, or a refusal, which
 // stays: a field that is stored at a refused cursor changes no byte, nor does one that does not fit. So a message is checked
 // once, before its first byte is stored, and written in straight lines.
+#![tactic(auto)]
+
 ghost use Rattle.std.specs.Prelude.{◌≡◌, ◌++◌, ◌+◌, ◌≤◌, length};
 ghost use Rattle.number.specs.BigEndian.{bytes_of, overwritten};
 ghost use Rattle.number.specs.TwosComplement.{bits_of};

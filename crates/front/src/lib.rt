@@ -1,5 +1,7 @@
 // The provider's front: a request that no file system is needed for is answered, and every known request is handed on. It knows the
 // reader and the writer through their contracts alone.
+#![tactic(auto)]
+
 ghost use Rattle.std.specs.Prelude.{◌≡◌};
 ghost use Rattle.layout.specs.Table.{HasFields};
 ghost use Rattle.layout.specs.Front.{front as layout_front, unknown_reply, invalid_reply, reply-with, settle};

@@ -1,6 +1,8 @@
 // Two tenants, one scratchpad, of the running functions: every writer, the front, the listing and the copying of names are run on two
 // buffers, and promise that what they answer and the bytes that they report do not depend on what the buffers held, and that the bytes behind
 // are those that were there.
+#![tactic(auto)]
+
 ghost use Rattle.std.specs.Prelude.{true, [], ◌∷◌};
 ghost use Rattle.method.specs.declared.Method.TheVariants as methods;
 ghost use Rattle.layout.specs.Table.{request as request_side, reply as reply_side, unknown_response};

@@ -1,5 +1,7 @@
 // Text in lines, added at a cursor of a lent buffer: numbers in decimal, and lines of names and numbers. Each function adds all of its
 // text or none: the room for the whole is tested before the first byte is stored.
+#![tactic(auto)]
+
 ghost use Rattle.std.specs.Prelude.{[], ◌∷◌, ◌++◌, ◌+◌, ◌≤◌};
 ghost use Rattle.text.specs.Ascii.{ascii};
 ghost use Rattle.layout.specs.Writing.{bit};

@@ -1,4 +1,6 @@
 // Reads one request from the standard input and prints its listing (document 01: the request lister).
+#![tactic(auto)]
+
 use libc::{STDIN_FILENO, STDOUT_FILENO};
 use message_writer::Written;
 use request_listing::LONGEST_LISTING;

@@ -1,4 +1,6 @@
 // How every writer begins and ends: the checks before its first byte, and its answer. Between them it stores its fields (`field_writer`).
+#![tactic(auto)]
+
 ghost use Rattle.std.specs.Prelude.{◌≡◌, true, ◌+◌};
 ghost use Rattle.text.specs.Utf8.{well_formed};
 ghost use Rattle.layout.specs.Writing.{length_of};

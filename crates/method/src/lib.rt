@@ -1,4 +1,6 @@
 // The 23 methods and their numbers on the wire: the type of a message.
+#![tactic(auto)]
+
 ghost use Rattle.std.specs.Prelude.{◌≡◌};
 ghost use Rattle.method.specs.Methods.{request_number, reply_number, of_request, of_reply, found_method};
 

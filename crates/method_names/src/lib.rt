@@ -1,4 +1,6 @@
 // The names of the methods, added at a cursor of a lent buffer.
+#![tactic(auto)]
+
 ghost use Rattle.std.specs.Prelude.{◌≡◌};
 ghost use Rattle.text.specs.Ascii.{ascii};
 ghost use Rattle.field_writer.specs.Stored.{Put};

@@ -1,6 +1,8 @@
 // The names of a readdir reply, read at positions. A position is a value, and each step gives the next. A name is a part of the message;
 // its text was checked when the message was read, and no step looks at it again. The iterator of document 01 (walker), a struct over
 // these functions, is crate `names_iterator`.
+#![tactic(auto)]
+
 ghost use Rattle.std.specs.Prelude.{◌≡◌, List, ◌∷◌, ℕ, ℤ, length};
 ghost use Rattle.layout.specs.Values.{signed};
 ghost use Rattle.layout.specs.Names.{names_among, names_of, opened, step as step_at};

@@ -1,5 +1,7 @@
 // The names iterator (document 01: walker): a struct that holds the reply and the position of the next name. `next` moves it on; it
 // is Copy, and the other methods leave it as it is. Each method takes it apart and leaves the work to functions of crate `names`.
+#![tactic(auto)]
+
 ghost use Rattle.std.specs.Prelude.{◌≡◌};
 ghost use Rattle.layout.specs.Names.{step as step_at};
 ghost use Rattle.wire.specs.Runs.{Shows};

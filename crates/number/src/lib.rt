@@ -1,5 +1,7 @@
 // Big-endian numbers of 1, 4 and 8 bytes, read at a place of a message and stored at a place of a buffer, and the signed
 // numbers that their bits are in two's complement.
+#![tactic(auto)]
+
 ghost use Rattle.std.specs.Prelude.{◌≡◌, [], ◌∷◌, ◌+◌, ◌≤◌, length, take, drop};
 ghost use Rattle.number.specs.BigEndian.{be, be_after, bytes_of, number_at, overwritten, Stores};
 ghost use Rattle.number.specs.TwosComplement.{signed_of, bits_of};

@@ -1,5 +1,7 @@
 // Bridges to the table of outstanding requests, for covered code, which cannot hold a slice of records: it hands the 64 records in by value
 // and has them back as words, beside the answer. An array of an enum cannot stand in a struct that covered code opens; words can.
+#![tactic(auto)]
+
 ghost use Rattle.std.specs.Prelude.{◌≡◌, map};
 ghost use Rattle.layout.specs.Table.{reply as reply_side};
 ghost use Rattle.layout.specs.Reading.{read};

@@ -1,5 +1,7 @@
 // What several calls on tables of outstanding requests promise together: code that makes the calls, on words that a host lends, and
 // promises the claim. It breaks where one of them promises less.
+#![tactic(auto)]
+
 ghost use Rattle.std.specs.Prelude.{◌≡◌, ◌<◌};
 ghost use Rattle.layout.specs.Reading.{refused as refused_answer};
 ghost use Rattle.layout.specs.Refusals.{id_not_outstanding};

@@ -1,6 +1,8 @@
 // What a call on the table of outstanding requests comes to: the answer, and the one record that changes. `enter`, `arrive` and `look`
 // decide on a table of words that is lent, and first ask whether it is sound. `insert` and `settle` are what follows, for a caller that
 // keeps its table sound. `decide_entry`, `decide_arrival` and `decide_look` decide for records that a service lends, on a copy of them.
+#![tactic(auto)]
+
 ghost use Rattle.std.specs.Prelude.{◌≡◌, List, ℕ, ◌<◌, length};
 ghost use Rattle.std.proofs.Math.Option.{some};
 ghost use Rattle.layout.specs.Table.{reply as reply_side};

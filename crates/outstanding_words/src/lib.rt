@@ -1,5 +1,7 @@
 // The records of the table of outstanding requests as words of 64 bits, and what is looked for in a table of words. A host lends words;
 // records that a service lends are turned into words to be decided on.
+#![tactic(auto)]
+
 ghost use Rattle.std.specs.Prelude.{◌≡◌, [], ◌∷◌, map, ◌≤◌, length};
 ghost use Rattle.outstanding.specs.Records.{is_free, holds_id, same_id, first, ids};
 ghost use Rattle.outstanding.specs.Calls.{in_bounds, sound};

@@ -4,6 +4,8 @@
 // `layout/specs/Table.antt` that it is compared with. Where the two differ, `proofs/request_codes` or `proofs/reply_codes` is refused, in the line of the
 // method: the lines of these files stand in the order of the rows. A field that no row has had needs a code among those of its kind, so that the codes
 // behind it move; docs/CHANGING.md has all places that a new code touches.
+#![tactic(auto)]
+
 ghost use Rattle.std.specs.Prelude.{◌≡◌, map, ◌<◌, take, drop};
 ghost use Rattle.layout.specs.Table.{request as request_side, reply as reply_side};
 ghost use Rattle.page_table.specs.Fields.{fields as all_fields, field_of, fields_of, kind_of, text_of, length_of, name_in};

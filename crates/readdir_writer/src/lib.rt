@@ -1,5 +1,7 @@
 // The readdir reply, written into a lent buffer. Its names are given as one run of bytes and a list of lengths; those of a reply
 // that was read are collected into this form. All checks stand before the first store, so a refusal changes no byte.
+#![tactic(auto)]
+
 ghost use Rattle.std.specs.Prelude.{◌≡◌, eqb, length, ◌≤◌};
 ghost use Rattle.layout.specs.Limits.{longest};
 ghost use Rattle.layout.specs.Reading.{bytes_at};

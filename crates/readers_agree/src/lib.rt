@@ -1,5 +1,7 @@
 // The claim of document 02, Item 10: both readers give the same answer to every message, refusals and their places too. Each function runs the first
 // reader and the second and gives what they answered.
+#![tactic(auto)]
+
 ghost use Rattle.layout.specs.Table.{request as request_side, reply as reply_side};
 ghost use Rattle.request_reader.specs.Answers as asked;
 ghost use Rattle.reply_reader.specs.Answers as replied;

@@ -1,4 +1,6 @@
 // The texts and the data of a reply that was read, each as a part of the message itself.
+#![tactic(auto)]
+
 ghost use Rattle.std.specs.Prelude.{◌≡◌, List, ℕ, ℤ};
 ghost use Rattle.layout.specs.Table.{reply as reply_side};
 ghost use Rattle.layout.specs.Parts.{part_named};

@@ -1,4 +1,6 @@
 // The reply reader: the header, the result, then the fields of the method, and one answer.
+#![tactic(auto)]
+
 ghost use Rattle.std.specs.Prelude.{◌≡◌, ◌+◌, ◌<◌, pos};
 ghost use Rattle.method.specs.declared.Method.TheVariants.{Getattr, Readlink, Open, Create, Read, Readdir, Statfs, Getcreds};
 ghost use Rattle.method.specs.Methods.{reply_number};

@@ -1,5 +1,7 @@
 // The success reply of any method but getcreds, as the reader gives it, written into a lent buffer. What was read is written again by
 // one call.
+#![tactic(auto)]
+
 ghost use Rattle.message_writer.specs.Writers.{Writes};
 ghost use Rattle.reply_rewriter.specs.Rewriting.{name_texts, rewriting, rewriting_names, Met};
 

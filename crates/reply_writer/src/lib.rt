@@ -1,6 +1,8 @@
 // Replies, written into a lent buffer: one function for each method's success, with its text or data lent and its numbers by value,
 // and one for failures, the getcreds reply and the unknown response each. The success of readdir is in `readdir_writer`.
 // All checks stand before the first store, so a refused writer changes no byte.
+#![tactic(auto)]
+
 ghost use Rattle.std.specs.Prelude.{◌≡◌, true, false, [], ◌∷◌, ◌++◌, ◌+◌, ◌≤◌, length};
 ghost use Rattle.number.specs.BigEndian.{bytes_of};
 ghost use Rattle.number.specs.TwosComplement.{bits_of};

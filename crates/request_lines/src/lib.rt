@@ -1,4 +1,6 @@
 // The lines of a request's fields, added at a cursor of a lent buffer.
+#![tactic(auto)]
+
 ghost use Rattle.std.specs.Prelude.{[], ◌∷◌};
 ghost use Rattle.method.specs.declared.Method.TheVariants as methods;
 ghost use Rattle.layout.specs.Values.{number as natural, signed, truth, run};

@@ -1,4 +1,6 @@
 // The listing of a request, rendered into a lent buffer (document 01: the lister).
+#![tactic(auto)]
+
 ghost use Rattle.std.specs.Prelude.{◌≡◌, [], ◌∷◌, ◌≤◌, length};
 ghost use Rattle.method.specs.Methods.{unknown as no_method};
 ghost use Rattle.layout.specs.Writing.{stored};

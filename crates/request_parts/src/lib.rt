@@ -1,4 +1,6 @@
 // The texts and the data of a request that was read, each as a part of the message itself.
+#![tactic(auto)]
+
 ghost use Rattle.std.specs.Prelude.{◌≡◌};
 ghost use Rattle.layout.specs.Table.{request as request_side};
 ghost use Rattle.layout.specs.Parts.{part_named};

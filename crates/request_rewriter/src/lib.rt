@@ -1,4 +1,6 @@
 // A request of any method, as the reader gives it, written into a lent buffer. What was read is written again by one call.
+#![tactic(auto)]
+
 ghost use Rattle.message_writer.specs.Writers.{Writes};
 ghost use Rattle.request_rewriter.specs.Rewriting.{rewriting};
 

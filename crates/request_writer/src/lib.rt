@@ -1,5 +1,7 @@
 // Requests, written into a lent buffer: one function for each method, with its texts and data lent and its numbers by value.
 // All checks stand before the first store, so a refused writer changes no byte.
+#![tactic(auto)]
+
 ghost use Rattle.std.specs.Prelude.{◌≡◌, true, ◌&&◌, [], ◌∷◌, ◌≤◌};
 ghost use Rattle.method.specs.declared.Method.TheVariants as methods;
 ghost use Rattle.layout.specs.Values.{number, signed, truth, run};

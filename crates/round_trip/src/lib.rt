@@ -1,5 +1,7 @@
 // Readers and writers against each other, of the running functions. What was read is written again by one call: the known part, or the
 // refusal and the buffer as it was. What was written is read back with the same values.
+#![tactic(auto)]
+
 ghost use Rattle.std.specs.Prelude.{[], ◌∷◌};
 ghost use Rattle.layout.specs.Table.{request as request_side, reply as reply_side, unknown_response};
 ghost use Rattle.layout.specs.Values.{signed, run};

@@ -1,6 +1,8 @@
 // Runs what a host cannot call, on the cases of the ops `s` and `o` of second/FORMAT.md: the parts that an answer shows by their own
 // functions, the names iterator as a struct, names collected, a request and a reply written again by one call; and the table of
 // outstanding requests in lent records. A line for each case.
+#![tactic(auto)]
+
 mod cases;
 mod checksum;
 mod print;

@@ -1,5 +1,7 @@
 // Timestamps, attributes and statistics, stored member after member at a cursor of the lent buffer. The room for all members is tested
 // before the first is stored.
+#![tactic(auto)]
+
 ghost use Rattle.std.specs.Prelude.{[]};
 ghost use Rattle.layout.specs.Kinds.{time_kinds, kinds, attributes as attributes_fields, statistics as statistics_fields};
 ghost use Rattle.wire.specs.Values.{time_values, attributes_values, statistics_values};

@@ -1,4 +1,6 @@
 // The names of a readdir reply that the second reader read. They are taken by the steps of crate `names`, from the position that is given here.
+#![tactic(auto)]
+
 ghost use Rattle.std.specs.Prelude.{◌≡◌, List, ℕ, length};
 ghost use Rattle.layout.specs.Table.{reply as reply_side};
 ghost use Rattle.layout.specs.Names.{names_of, opened};

@@ -1,5 +1,7 @@
 // The second reader: one walk over the row of the message's type, for requests and replies. Which fields a message has is told by crate
 // `page_table` alone.
+#![tactic(auto)]
+
 ghost use Rattle.std.specs.Prelude.{◌≡◌, ◌<◌, pos, length, take};
 ghost use Rattle.number.specs.TwosComplement.{bits_of};
 ghost use Rattle.layout.specs.Kinds.{strings, kinds};

@@ -1,4 +1,6 @@
 // Well-formed text: UTF-8, by the eight entries of document 01's list (RFC 3629, section 4).
+#![tactic(auto)]
+
 ghost use Rattle.std.specs.Prelude.{◌≡◌, [], ◌∷◌, ◌<◌, length, drop};
 ghost use Rattle.text.specs.Utf8.{◌to◌, begins, character, well_formed_end};
 

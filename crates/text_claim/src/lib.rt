@@ -1,5 +1,7 @@
 // Where malformed text breaks (document 02, Item 2), as a claim over the running readers. A message that is refused so is read again, cut at
 // that place, and is then refused where the string begins. So the string is found, and what holds of it is promised.
+#![tactic(auto)]
+
 ghost use Rattle.std.specs.Prelude.{◌≡◌, List, ℕ};
 ghost use Rattle.layout.specs.Reading.{refused};
 ghost use Rattle.layout.specs.Table.{request as request_side, reply as reply_side};

@@ -1,5 +1,7 @@
 // What readers and writers share: a cursor, a part of a message, the structures that messages carry; and the numbers of refusal, sizes
 // and places as constants. What the constants are called in definitions is in `layout` (Refusals, Limits, Reading, Names).
+#![tactic(auto)]
+
 ghost use Rattle.wire.specs.Runs.{part_of, Shows};
 
 // A place of a message or of a lent buffer, or a refusal, which stays. Code 0: a place. Any other code: a refusal by its number, with its
