@@ -99,6 +99,8 @@ pub given-again : (m : List ℕ) {ks : List Kind} (vs : List (Value Part)) → A
 given-again m [] none ls h ns i later e others = refl
 given-again m (number n ∷ vs) (more (fits-num {k = k} f) t) ls h ns i later e others =
     ap₂ (λ v us. v ∷ us) (ap (value_by k) (first-given ns i e) ∙ number-again f) (given-again m vs t ls h ns (i + 1) later (rest-given ns i e) others)
+given-again m (run x ∷ vs) (more {ks = ks} (fits-num {k = k} f) t) ls h ns i later e others = elim f [ ]
+given-again m (runs xs ∷ vs) (more {ks = ks} (fits-num {k = k} f) t) ls h ns i later e others = elim f [ ]
 given-again m (signed z ∷ vs) (more (fits-num {k = k} f) t) ls h ns i later e others =
     ap₂ (λ v us. v ∷ us) (ap (value_by k) (first-given ns i e) ∙ signed-again f) (given-again m vs t ls h ns (i + 1) later (rest-given ns i e) others)
 given-again m (truth b ∷ vs) (more (fits-num {k = k} f) t) ls h ns i later e others =

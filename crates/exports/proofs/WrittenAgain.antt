@@ -41,6 +41,8 @@ no_lengths m [] none h ls = tt
 no_lengths m (number n ∷ vs) (more (fits-num f) t) h ls = no_lengths m vs t h ls
 no_lengths m (signed z ∷ vs) (more (fits-num f) t) h ls = no_lengths m vs t h ls
 no_lengths m (truth b ∷ vs) (more (fits-num f) t) h ls = no_lengths m vs t h ls
+no_lengths m (run x ∷ vs) (more {ks = ks} (fits-num {k = k} f) t) h ls = elim f [ ]
+no_lengths m (runs xs ∷ vs) (more {ks = ks} (fits-num {k = k} f) t) h ls = elim f [ ]
 no_lengths m (run x ∷ vs) (more (fits-string s) t) h ls = no_lengths m vs t h ls
 no_lengths m (run x ∷ vs) (more (fits-bytes s) t) h ls = no_lengths m vs t h ls
 no_lengths m (runs xs ∷ vs) (more (fits-strings ss) t) h ls = apart h
@@ -100,6 +102,8 @@ module _ (m : List ℕ) (s ls : List ℕ) (others : List (List ℕ)) where
   names-summed (number n ∷ us) (more (fits-num f) t) k l r = apart (cc)
   names-summed (signed z ∷ us) (more (fits-num f) t) k l r = apart (cc)
   names-summed (truth b ∷ us) (more (fits-num f) t) k l r = apart (cc)
+  names-summed (run x ∷ us) (more {ks = ks} (fits-num f) t) k l r = elim f [ ]
+  names-summed (runs xs ∷ us) (more {ks = ks} (fits-num f) t) k l r = elim f [ ]
   names-summed (run x ∷ us) (more (fits-string w) t) k l r = apart (cc)
   names-summed (run x ∷ us) (more (fits-bytes w) t) k l r = apart (cc)
   names-summed (runs xs ∷ us) (more (fits-strings ss) t) k l r =

@@ -21,77 +21,77 @@ use wire::{
 
 // A field of each type: its value, and the cursor behind it. Where that is a refusal, the value is 0, false or empty; of a structure, so are
 // the members from the refused one on.
-#[derive(Drop)]
+#[derive(Clone, Copy)]
 pub struct U8Field {
     pub value: u8,
     pub next: Cursor,
 }
 
 // A signed number of 1 byte.
-#[derive(Drop)]
+#[derive(Clone, Copy)]
 pub struct I8Field {
     pub value: i8,
     pub next: Cursor,
 }
 
 // A truth value.
-#[derive(Drop)]
+#[derive(Clone, Copy)]
 pub struct BoolField {
     pub value: bool,
     pub next: Cursor,
 }
 
 // A number of 4 bytes, or a count of names.
-#[derive(Drop)]
+#[derive(Clone, Copy)]
 pub struct U32Field {
     pub value: u32,
     pub next: Cursor,
 }
 
 // A signed number of 4 bytes.
-#[derive(Drop)]
+#[derive(Clone, Copy)]
 pub struct I32Field {
     pub value: i32,
     pub next: Cursor,
 }
 
 // A number of 8 bytes.
-#[derive(Drop)]
+#[derive(Clone, Copy)]
 pub struct U64Field {
     pub value: u64,
     pub next: Cursor,
 }
 
 // A text or data.
-#[derive(Drop)]
+#[derive(Clone, Copy)]
 pub struct RunField {
     pub value: Run,
     pub next: Cursor,
 }
 
 // A timestamp.
-#[derive(Drop)]
+#[derive(Clone, Copy)]
 pub struct TimestampField {
     pub value: Timestamp,
     pub next: Cursor,
 }
 
 // Attributes.
-#[derive(Drop)]
+#[derive(Clone, Copy)]
 pub struct AttributesField {
     pub value: Attributes,
     pub next: Cursor,
 }
 
 // Statistics.
-#[derive(Drop)]
+#[derive(Clone, Copy)]
 pub struct StatisticsField {
     pub value: Statistics,
     pub next: Cursor,
 }
 
 // The header of a message, and the cursor behind it.
-#[derive(Drop)]
+#[derive(Clone, Copy)]
 pub struct HeaderField {
     pub value: Header,
     pub next: Cursor,

@@ -17,7 +17,7 @@ use wire::Refusal;
 const INVALID: i32 = -22;
 
 // What the front tells.
-#[derive(Drop)]
+#[derive(Clone, Copy)]
 pub enum Fronted {
     // The request is for the file system.
     HandedOn,

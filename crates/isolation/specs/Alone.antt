@@ -1,6 +1,6 @@
 -- Two runs on two lent buffers: what each told and left, and that neither depends on what the buffers held.
 use Rattle.std.specs.Prelude.{ℕ, ◌≡◌, List, length, take, drop}
-use Rattle.std.specs.Borrow.{Bor}
+use Rattle.std.specs.Borrow.{MutBor}
 use denote.Triple.Both.{Both}
 use Rattle.layout.specs.Values.{Part}
 use Rattle.layout.specs.Writing.{length_of, WriteOutcome}
@@ -17,7 +17,7 @@ use Rattle.isolation.specs.declared.CollectedTwice.{CollectedTwice}
 
 -- a buffer that is lent to a function, before and afterwards
 abbrev pub Lent : Type 0
-Lent = Both (Bor (List ℕ)) (Bor (List ℕ))
+Lent = Both (MutBor (List ℕ)) (MutBor (List ℕ))
 
 -- neither what was told nor what was left depends on what the buffers held, where f is how many bytes are told
 abbrev pub LeftApart : {A : Type 0} → (A → ℕ) → A → A → Lent → Lent → Type 0

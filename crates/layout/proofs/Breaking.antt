@@ -261,7 +261,7 @@ module _ (m : List ℕ) where
 strings-stop : {m : List ℕ} {k p r n s : ℕ} {xs : List Part} → StringsHere m k p xs r → (c : ℕ) → k < c → string_at m r ≡ fail n s → strings_at c m p ≡ fail n s
 strings-stop t zero l e = let nothing : ⊥ = omega arith in absurd nothing
 strings-stop no-string (suc c) l e = rw e
-strings-stop (a-string-more h t) (suc c) l e = rw (sized_reads h, strings-stop t c (omega arith) e)
+strings-stop (a-string-more {n = k} h t) (suc c) l e = rw (sized_reads h, strings-stop {k = k} t c (omega arith) e)
 
 module _ (m m' : List ℕ) where
   num-again : (p : ℕ) {n q : ℕ} → num_at 4 m p ≡ got n q → Agree q m m' → num_at 4 m' p ≡ got n q

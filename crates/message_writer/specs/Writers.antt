@@ -1,6 +1,6 @@
 -- How a writer begins and ends.
 use Rattle.std.specs.Prelude.{ℕ, ◌≡◌, Bool, cond, List, eqb, leb}
-use Rattle.std.specs.Borrow.{Bor}
+use Rattle.std.specs.Borrow.{MutBor}
 use Rattle.layout.specs.Refusals.{oversize, malformed_text, buffer_too_small}
 use Rattle.layout.specs.Limits.{longest}
 use Rattle.layout.specs.Writing.{Told, stored, refused, WriteOutcome}
@@ -34,5 +34,5 @@ pub record Wrote (w : WriteOutcome) (n : List ℕ) (r : Written) : Type 0 where
   pub leaves : n ≡ w.buffer
 
 -- the same of a lent buffer, before and afterwards
-abbrev pub Writes : (List ℕ → WriteOutcome) → Bor (List ℕ) → Bor (List ℕ) → Written → Type 0
+abbrev pub Writes : (List ℕ → WriteOutcome) → MutBor (List ℕ) → MutBor (List ℕ) → Written → Type 0
 Writes w before after r = Wrote (w before.now) after.now r

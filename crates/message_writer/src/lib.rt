@@ -9,7 +9,7 @@ ghost use Rattle.message_writer.specs.Writers.{told_of, Ends, admitted};
 use wire::{Cursor, LONGEST_MESSAGE, Refusal};
 
 // What a writer answers.
-#[derive(Drop)]
+#[derive(Clone, Copy)]
 pub enum Written {
     // So many bytes were stored, from the start of the lent buffer on.
     Stored { len: usize },

@@ -5,7 +5,7 @@ ghost use Rattle.std.specs.Prelude.{◌≡◌};
 ghost use Rattle.method.specs.Methods.{request_number, reply_number, of_request, of_reply, found_method};
 
 // A method of the file system, in document 01's order.
-#[derive(Drop)]
+#[derive(Clone, Copy)]
 pub enum Method {
     // Request 01, reply 81.
     Access,
@@ -56,7 +56,7 @@ pub enum Method {
 }
 
 // What looking a number up finds.
-#[derive(Drop)]
+#[derive(Clone, Copy)]
 pub enum Lookup {
     // It is this method's.
     Found(Method),

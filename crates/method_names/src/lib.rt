@@ -10,7 +10,7 @@ use method::Method;
 use wire::Cursor;
 
 // A name, filled up with spaces, and its length.
-#[derive(Drop)]
+#[derive(Clone, Copy)]
 struct Name([u8; 8], usize);
 
 // In the order of the request numbers, which begin at 1.

@@ -3,14 +3,11 @@ use mathlib.Core.Path.{◌≡◌, refl}
 use mathlib.Core.List.{List, [], ◌∷◌}
 use Prim.Native.Nat.{ℕ}
 use lib.IntN.{ℤ}
-use denote.Enum.Declared.{tag_of}
-use types.Run.{OneOf, miss}
 use Rattle.layout.specs.Values.{signed}
 use Rattle.layout.specs.Names.{names_among}
 use Rattle.reply_reader.specs.declared.Reply.{Reply}
 use Rattle.reply_reader.specs.declared.Reply.TheVariants as R
 use Rattle.reply_reader.specs.Answers.{values_of}
-use Rattle.reply_reader.specs.contracts.Reply.{the_type}
 
 abbrev Nameless : Reply → Type 0
 Nameless q = (m : List ℕ) (z : ℤ) → names_among (signed z ∷ values_of m q) ≡ []
@@ -43,10 +40,6 @@ split R.Rmdir = other (λ m z. refl)
 split (R.Statfs statistics) = other (λ m z. refl)
 split R.Utimens = other (λ m z. refl)
 
--- the tags of the others, as the match of the code has them
-abbrev other_tags : List ℕ
-other_tags = 0 ∷ 1 ∷ 2 ∷ 3 ∷ 4 ∷ 5 ∷ 6 ∷ 7 ∷ 8 ∷ 9 ∷ 10 ∷ 11 ∷ 12 ∷ 13 ∷ 14 ∷ 15 ∷ 16 ∷ 17 ∷ 19 ∷ 20 ∷ 21 ∷ []
-
-pub other-nameless : {q : Reply} → Split q → OneOf other_tags (tag_of the_type q) → Nameless q
-other-nameless (readdir ns) h = absurd (miss other_tags 18 tt h)
+pub other-nameless : {q : Reply} → Split q → ((n : ℕ) → q ≡ R.Readdir n → ⊥) → Nameless q
+other-nameless (readdir n) h = absurd (h n refl)
 other-nameless (other o) h = o

@@ -14,14 +14,14 @@ use reply_reader::{Reply, ReplyAnswer};
 use wire::{Cursor, FIRST_NAME, Refusal, Run};
 
 // Where the next name begins, and how many are left.
-#[derive(Drop)]
+#[derive(Clone, Copy)]
 pub struct Position {
     pub at: usize,
     pub left: u32,
 }
 
 // What a step gives.
-#[derive(Drop)]
+#[derive(Clone, Copy)]
 pub enum Step {
     // A name, and the position behind it.
     Name { run: Run, next: Position },

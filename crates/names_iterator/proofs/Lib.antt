@@ -1,5 +1,2 @@
 pub mod Looping
-mod Held
-mod Taking
 mod Reaching
-mod Lending

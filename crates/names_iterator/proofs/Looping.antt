@@ -5,7 +5,7 @@ use mathlib.Core.Path.{◌≡◌, refl, sym, ap, subst, ◌∙◌}
 use mathlib.Core.List.{List, [], ◌∷◌}
 use Prim.Native.Nat.{ℕ, suc}
 use lib.ListN.{take}
-use denote.Ref.{Bor, MutBor}
+use denote.Ref.{Bor}
 use Rattle.layout.specs.Table.{reply}
 use Rattle.layout.specs.Values.{Part, bytes_in}
 use Rattle.layout.specs.Reading.{read}
@@ -49,8 +49,8 @@ turns-calls (a-name {w = w} t ts) = law.a-name (called t) (after w t refl (turns
 turns-calls (an-end {w = w} t ts) = law.an-end (called t) (after w t refl (turns-calls ts))
 
 -- n turns from `open` meet the first n names of the reply, in order: all of them, and then no more
-pub opened-turns : {m : MutBor (List ℕ)} {n : ℕ} {it : Iter} {xs : List Part} → Opened m it → Turns n it xs → xs ≡ take n (names_of (read reply m.now))
-opened-turns {m} {n} {it} {xs} o t = law.opened-calls o.1 (subst (λ (s : MutBor (List ℕ)). law.Calls s.now n it.position xs) o.0 (turns-calls t))
+pub opened-turns : {m : Bor (List ℕ)} {n : ℕ} {it : Iter} {xs : List Part} → Opened m it → Turns n it xs → xs ≡ take n (names_of (read reply m.now))
+opened-turns {m} {n} {it} {xs} o t = law.opened-calls o.1 (subst (λ (s : Bor (List ℕ)). law.Calls s.now n it.position xs) o.0 (turns-calls t))
 
 -- at the end the iterator stays as it is
 pub end_stays : {it it' : Iter} {w : Position} → Turn it (S.End w) it' → it' ≡ it

@@ -11,7 +11,7 @@ ghost use Rattle.names_iterator.specs.Iterating.{Opened, step_on, Further, Takes
 use names::{Position, Step};
 
 // The iterator: the reply, and where the next name begins.
-#[derive(Drop)]
+#[derive(Clone, Copy)]
 pub struct Iter<'a> {
     pub reply: &'a [u8],
     pub position: Position,
@@ -75,7 +75,7 @@ pub fn step_from(reply: &[u8], position: Position) -> Step
 }
 
 // A step, and where it leaves the iterator.
-#[derive(Drop)]
+#[derive(Clone, Copy)]
 pub struct Moved {
     pub step: Step,
     pub position: Position,

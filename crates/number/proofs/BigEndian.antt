@@ -7,7 +7,7 @@ use native.Mathlib.Nat.{pow-suc, pow-succ', add-mul, mul_assoc, add_assoc, zero-
 use native.Mathlib.Omega.{arith}
 use lib.Arith.{mod-mul, digits_div, digits_mod}
 use lib.Dec.{leb, lit<}
-use lib.ListN.{length, get_or, take, drop, length-append, length-drop}
+use lib.ListN.{length, take, drop, length-append, length-drop}
 use lib.Seq.{take_at, drop_at, length-take-le}
 use borrow.Author.Tests.{le-leb, lt-leb, leb-true}
 use Rattle.number.specs.BigEndian.{be, be_after, bytes_of, Bytes, whole, truncated, number_at, overwritten, Stores}

@@ -22,7 +22,7 @@ use reply_reader::ReplyAnswer;
 use wire::Refusal;
 
 // What emptying and entering answer.
-#[derive(Drop)]
+#[derive(Clone, Copy)]
 pub enum Entered {
     // It was done.
     Done,
@@ -31,7 +31,7 @@ pub enum Entered {
 }
 
 // What an arriving reply answers: all that its reader shows of it, or a refusal.
-#[derive(Drop)]
+#[derive(Clone, Copy)]
 pub enum Arrived {
     // The reply answers an outstanding request, which is no longer outstanding.
     Answered { answer: ReplyAnswer },
@@ -40,7 +40,7 @@ pub enum Arrived {
 }
 
 // The request of an id that was looked for.
-#[derive(Drop)]
+#[derive(Clone, Copy)]
 pub enum Found {
     // No request with this id is outstanding.
     NotOutstanding,
@@ -49,7 +49,7 @@ pub enum Found {
 }
 
 // What a look shows: how many requests are outstanding, and that of one id.
-#[derive(Drop)]
+#[derive(Clone, Copy)]
 pub enum Looked {
     // So many requests are outstanding, and what was found of the id.
     Seen { count: usize, found: Found },
@@ -58,7 +58,7 @@ pub enum Looked {
 }
 
 // An entry decided: the record to be stored and its place, past the end where nothing is stored.
-#[derive(Drop)]
+#[derive(Clone, Copy)]
 pub struct Entry {
     pub at: usize,
     pub record: Record,
@@ -66,7 +66,7 @@ pub struct Entry {
 }
 
 // A removal decided: the place of the record to be freed, past the end where none is.
-#[derive(Drop)]
+#[derive(Clone, Copy)]
 pub struct Removal {
     pub at: usize,
     pub answer: Arrived,
@@ -132,7 +132,7 @@ pub fn decide_entry(len: usize, table: [Record; 64], id: u32, type_number: u8) -
 // ---- an arriving reply
 
 // Whether a reply was accepted by its reader.
-#[derive(Drop)]
+#[derive(Clone, Copy)]
 enum Reading {
     Accepted { id: u32 },
     Refused { number: u8, place: usize },

@@ -9,13 +9,13 @@ ghost use Rattle.outstanding_records.specs.Copies.{Copied};
 pub const SIZE: usize = 64;
 
 // What is known of an outstanding request beside its id.
-#[derive(Drop)]
+#[derive(Clone, Copy)]
 pub struct Request {
     pub type_number: u8,
 }
 
 // A record of the table.
-#[derive(Drop)]
+#[derive(Clone, Copy)]
 pub enum Record {
     // It holds no request.
     Free,

@@ -14,14 +14,14 @@ ghost use Rattle.page_table.specs.Rows.{side_of, fields_behind, most_fields, Rep
 use method::Method;
 
 // Requests or replies.
-#[derive(Drop)]
+#[derive(Clone, Copy)]
 pub enum Side {
     Request,
     Reply,
 }
 
 // The kinds of fields, as document 01 has them.
-#[derive(Drop)]
+#[derive(Clone, Copy)]
 pub enum Kind {
     U8,
     I8,
@@ -35,14 +35,14 @@ pub enum Kind {
 }
 
 // The name of a field, as listings show it: filled up with spaces, and its length.
-#[derive(Drop)]
+#[derive(Clone, Copy)]
 pub struct FieldName {
     pub text: [u8; 12],
     pub len: usize,
 }
 
 // What stands behind the header of a message.
-#[derive(Drop)]
+#[derive(Clone, Copy)]
 pub enum Lead {
     // No message has this type.
     Unexpected,
@@ -62,7 +62,7 @@ pub enum Lead {
 pub const MOST_FIELDS: usize = 14;
 
 // The row of a type: what its fields stand behind, and their codes up to the first END.
-#[derive(Drop)]
+#[derive(Clone, Copy)]
 pub struct Row {
     pub lead: Lead,
     pub codes: [u8; MOST_FIELDS],

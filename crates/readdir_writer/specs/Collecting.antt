@@ -1,6 +1,6 @@
 -- Names copied out of a message: their bytes as one run, and their lengths as a list.
 use Rattle.std.specs.Prelude.{ℕ, ◌≤◌, ◌≡◌, ◌&&◌, cond, List, ◌++◌, map, leb, length, drop}
-use Rattle.std.specs.Borrow.{Bor}
+use Rattle.std.specs.Borrow.{MutBor}
 use Rattle.layout.specs.Refusals.{buffer_too_small}
 use Rattle.layout.specs.Values.{Part, bytes_in}
 use Rattle.layout.specs.Reading.{Outcome, got, fail}
@@ -46,7 +46,7 @@ abbrev pub buffers : List ℕ → List ℕ → Buffers
 buffers s ns = record { run = s; lengths = ns }
 
 -- what they hold
-abbrev pub lent : Bor (List ℕ) → Bor (List ℕ) → Buffers
+abbrev pub lent : MutBor (List ℕ) → MutBor (List ℕ) → Buffers
 lent run lengths = buffers run.now lengths.now
 
 -- the names xs of m in front of what stays of the buffers; of a refusal, these are as before

@@ -115,7 +115,7 @@ fn put_names(out: &mut [u8], c: Cursor, names: &[u8], lengths: &[u32]) -> Cursor
 }
 
 // What collecting names answers.
-#[derive(Drop)]
+#[derive(Clone, Copy)]
 pub enum Collected {
     // So many names with so many bytes in all were copied.
     Copied { count: usize, len: usize },
@@ -207,7 +207,7 @@ fn copy_names(m: &[u8], count: u32, run: &mut [u8], lengths: &mut [u32])
 }
 
 // The name at a place of the message.
-#[derive(Drop)]
+#[derive(Clone, Copy)]
 pub enum Next {
     // Where its bytes begin, and how many they are.
     Name { start: usize, len: u32 },

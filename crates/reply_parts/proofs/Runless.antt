@@ -3,14 +3,11 @@ use mathlib.Core.Path.{◌≡◌, refl}
 use mathlib.Core.List.{List, [], ◌∷◌}
 use Prim.Native.Nat.{ℕ}
 use lib.IntN.{ℤ}
-use denote.Enum.Declared.{tag_of}
-use types.Run.{OneOf, miss}
 use Rattle.method.specs.Methods.{of_reply}
 use Rattle.layout.specs.Parts.{fields_of}
 use Rattle.wire.specs.declared.Run.{Run}
 use Rattle.reply_reader.specs.declared.Reply.{Reply}
 use Rattle.reply_reader.specs.declared.Reply.TheVariants as R
-use Rattle.reply_reader.specs.contracts.Reply.{the_type}
 use Rattle.reply_parts.specs.Parts.{parts_of_reply, no_parts}
 
 abbrev Runless : Reply → Type 0
@@ -46,14 +43,7 @@ split R.Rmdir = other (λ m z. refl)
 split (R.Statfs statistics) = other (λ m z. refl)
 split R.Utimens = other (λ m z. refl)
 
--- the tags of all but readlink, and of all but read, as the matches of the code have them
-abbrev not_readlink : List ℕ
-not_readlink = 0 ∷ 1 ∷ 3 ∷ 4 ∷ 5 ∷ 6 ∷ 7 ∷ 8 ∷ 9 ∷ 10 ∷ 11 ∷ 12 ∷ 13 ∷ 14 ∷ 15 ∷ 16 ∷ 17 ∷ 18 ∷ 19 ∷ 20 ∷ 21 ∷ []
-
-abbrev not_read : List ℕ
-not_read = 0 ∷ 1 ∷ 2 ∷ 3 ∷ 4 ∷ 5 ∷ 6 ∷ 7 ∷ 8 ∷ 9 ∷ 10 ∷ 11 ∷ 12 ∷ 13 ∷ 14 ∷ 16 ∷ 17 ∷ 18 ∷ 19 ∷ 20 ∷ 21 ∷ []
-
-pub other-runless : {q : Reply} → Split q → OneOf not_readlink (tag_of the_type q) → OneOf not_read (tag_of the_type q) → Runless q
-other-runless (readlink x) h k = absurd (miss not_readlink 2 tt h)
-other-runless (read x) h k = absurd (miss not_read 15 tt k)
+pub other-runless : {q : Reply} → Split q → ((x : Run) → q ≡ R.Readlink x → ⊥) → ((x : Run) → q ≡ R.Read x → ⊥) → Runless q
+other-runless (readlink x) h k = absurd (h x refl)
+other-runless (read x) h k = absurd (k x refl)
 other-runless (other o) h k = o

@@ -12,7 +12,7 @@ use reply_reader::{Reply, ReplyAnswer};
 use wire::Run;
 
 // The runs of a reply by the names of its fields; a run that it does not have is empty.
-#[derive(Drop)]
+#[derive(Clone, Copy)]
 struct Runs {
     resolved: Run,
     data: Run,

@@ -16,7 +16,7 @@ use wire::{Attributes, Cursor, Header, RESULT_PLACE, Refusal, Run, Statistics};
 
 // A successful reply of each method that has a result, the fields behind it by the row of document 01's table. Text and data are runs: parts of the
 // message. The names of a readdir reply are in the message (crate `names`); here is how many they are.
-#[derive(Drop)]
+#[derive(Clone, Copy)]
 pub enum Reply {
     // access: result alone.
     Access,
@@ -65,7 +65,7 @@ pub enum Reply {
 }
 
 // What reading a reply comes to. `known` is the length of the known part.
-#[derive(Drop)]
+#[derive(Clone, Copy)]
 pub enum ReplyAnswer {
     // A result that is not negative, and the fields behind it.
     Success {

@@ -11,7 +11,7 @@ use mir.Val.{Fits}
 use borrow.Author.Tests.{le-leb, lt-leb}
 use Rattle.number.specs.BigEndian.{overwritten}
 use Rattle.text.specs.Ascii.{ascii}
-use Rattle.method.specs.Methods.{Found, unknown as no-method, of_request}
+use Rattle.method.specs.Methods.{Found, found, unknown as no-method, of_request}
 use Rattle.method.proofs.Table.{request-found}
 use Rattle.layout.specs.Table.{request, request_plan, plan}
 use Rattle.layout.specs.Values.{Part, Value}
@@ -45,6 +45,7 @@ named {v = v} {w = w} p q =
 
 unknown-plan : (f : Found) {m : List ℕ} {p q : ℕ} {vs : List (Value Part)} → BodyHere m (request_plan f) p unknown vs q → f ≡ no-method
 unknown-plan no-method header-only = refl
+unknown-plan (found _) {m = m} {p = p} {q = q} {vs = vs} b = elim b [ ]
 
 unknown-type : (m : List ℕ) (i t k : ℕ) (vs : List (Value Part)) → read request m ≡ accepted unknown i t vs k → of_request t ≡ no-method
 unfolding plan

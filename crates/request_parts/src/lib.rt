@@ -12,7 +12,7 @@ use request_reader::{Request, RequestAnswer};
 use wire::Run;
 
 // The runs of a request by the names of its fields; a run that it does not have is empty.
-#[derive(Drop)]
+#[derive(Clone, Copy)]
 struct Runs {
     path: Run,
     target: Run,

@@ -13,7 +13,7 @@ use wire::{Cursor, Header, Refusal, Run, Timestamp};
 
 // A request of each method, its fields by the row of document 01's table, which document 02, Item 3, amends for write, and its numbers at their
 // own types. A text or data field is a run: a part of the message.
-#[derive(Drop)]
+#[derive(Clone, Copy)]
 pub enum Request {
     // access: path S, mode i8.
     Access {
@@ -168,7 +168,7 @@ impl Request {
 }
 
 // What reading a request comes to. `known` is the length of the known part.
-#[derive(Drop)]
+#[derive(Clone, Copy)]
 pub enum RequestAnswer {
     // A request of a method.
     Known {

@@ -1,6 +1,6 @@
 -- What writing a request means.
 use Rattle.std.specs.Prelude.{ℕ, ◌+◌, Bool, true, ◌&&◌, List, [], ◌∷◌, ◌++◌, map, length}
-use Rattle.std.specs.Borrow.{Bor}
+use Rattle.std.specs.Borrow.{Bor, MutBor}
 use Rattle.number.specs.BigEndian.{bytes_of}
 use Rattle.method.specs.declared.Method.{Method}
 use Rattle.method.specs.Methods.{request_number}
@@ -31,10 +31,10 @@ abbrev pub runs_size : List ℕ → List ℕ → ℕ → ℕ
 runs_size s u w = length s + length u + (header_size + width u32 + width u32 + w)
 
 -- such a request began in a lent buffer; its first run is looked at as a text, and a second one where it is marked as text
-abbrev pub RunStarted : Bor (List ℕ) → ℕ → ℕ → ℕ → Bor (List ℕ) → Bor (List ℕ) → Cursor → Type 0
+abbrev pub RunStarted : Bor (List ℕ) → ℕ → ℕ → ℕ → MutBor (List ℕ) → MutBor (List ℕ) → Cursor → Type 0
 RunStarted s w i t before after =
     RequestStarted (valid_by true s.now) (s.now ∷ []) (run_size s.now w) i t before.now after.now
 
-abbrev pub RunsStarted : Bor (List ℕ) → Bool → Bor (List ℕ) → ℕ → ℕ → ℕ → Bor (List ℕ) → Bor (List ℕ) → Cursor → Type 0
+abbrev pub RunsStarted : Bor (List ℕ) → Bool → Bor (List ℕ) → ℕ → ℕ → ℕ → MutBor (List ℕ) → MutBor (List ℕ) → Cursor → Type 0
 RunsStarted s is_text u w i t before after =
     RequestStarted (valid_by true s.now && valid_by is_text u.now) (s.now ∷ u.now ∷ []) (runs_size s.now u.now w) i t before.now after.now

@@ -1,6 +1,6 @@
 -- Reading and writing against each other.
 use Rattle.std.specs.Prelude.{ℕ, ◌≡◌, Bool, true, List, [], ◌∷◌, ◌++◌, eqb, leb, ℤ, length, take, drop}
-use Rattle.std.specs.Borrow.{Bor}
+use Rattle.std.specs.Borrow.{MutBor}
 use Rattle.method.specs.declared.Method.TheVariants.{Readdir, Getcreds}
 use Rattle.method.specs.Methods.{reply_number}
 use Rattle.layout.specs.Refusals.{buffer_too_small}
@@ -49,7 +49,7 @@ pub record Back (side : Side) (s : Shape) (i t : ℕ) (vs : List (Value (List �
   pub is : {n : ℕ} → told_of r ≡ stored n → ReadAs (take n after) s i t vs n a
 
 -- the same of a request, and of a lent buffer, before and afterwards
-abbrev pub RequestReturns : Shape → ℕ → ℕ → List (Value (List ℕ)) → Bor (List ℕ) → Bor (List ℕ) → RequestBack → Type 0
+abbrev pub RequestReturns : Shape → ℕ → ℕ → List (Value (List ℕ)) → MutBor (List ℕ) → MutBor (List ℕ) → RequestBack → Type 0
 RequestReturns s i t vs before after r = Back request s i t vs true before.now after.now r.written (request_answer r.answer)
 
 -- the answer to a reply, its names found in the bytes that were stored
@@ -57,11 +57,11 @@ abbrev pub answer_stored : List ℕ → ReplyBack → Answer
 answer_stored after r = reply_answer (take (length_of (told_of r.written)) after) r.answer
 
 -- the same of a reply
-abbrev pub ReplyReturns : Shape → ℕ → ℕ → List (Value (List ℕ)) → Bor (List ℕ) → Bor (List ℕ) → ReplyBack → Type 0
+abbrev pub ReplyReturns : Shape → ℕ → ℕ → List (Value (List ℕ)) → MutBor (List ℕ) → MutBor (List ℕ) → ReplyBack → Type 0
 ReplyReturns s i t vs before after r = Back reply s i t vs true before.now after.now r.written (answer_stored after.now r)
 
 -- the success of readdir, its names given as the lengths ns and the run s
-abbrev pub NamesReturn : ℕ → ℤ → List ℕ → List ℕ → Bor (List ℕ) → Bor (List ℕ) → ReplyBack → Type 0
+abbrev pub NamesReturn : ℕ → ℤ → List ℕ → List ℕ → MutBor (List ℕ) → MutBor (List ℕ) → ReplyBack → Type 0
 NamesReturn i z ns s before after r =
     Back reply success i (reply_number Readdir) (signed z ∷ runs (split ns s) ∷ []) (eqb (sum ns) (length s)) before.now after.now
     r.written (answer_stored after.now r)

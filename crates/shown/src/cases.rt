@@ -2,10 +2,12 @@
 ghost use Rattle.std.specs.Prelude.{◌≡◌, length, take, drop};
 ghost use Rattle.shown.specs.Cases.{number_in, listed, filling, byte_modulus, number_modulus};
 
-use libc::STDIN_FILENO;
 use number::{ReadU8, ReadU32};
 
 // ---- the input
+
+// The descriptor of the standard input.
+const STDIN: i32 = 0;
 
 // The places of the op and of the body's length.
 const OP_PLACE: usize = 0;
@@ -22,7 +24,7 @@ pub(crate) struct Head {
 // The head of the next case of the input.
 pub(crate) fn read_head() -> Head {
     let mut head = [0u8; 5];
-    io::read_full(STDIN_FILENO, &mut head);
+    io::read_full(STDIN, &mut head);
     Head {
         op: byte_at(&head, OP_PLACE),
         len: word_at(&head, LEN_PLACE) as usize,
@@ -31,7 +33,7 @@ pub(crate) fn read_head() -> Head {
 
 // Whether `len` bytes of the input filled `body`; it is shorter where a case has a longer body than any may have.
 pub(crate) fn read_body(body: &mut [u8], len: usize) -> bool {
-    let got = io::read_full(STDIN_FILENO, body);
+    let got = io::read_full(STDIN, body);
     got == len
 }
 

@@ -1,10 +1,12 @@
 // The words of an answer, written to standard output as they come.
 use crate::checksum;
-use libc::STDOUT_FILENO;
+
+// The descriptor of the standard output.
+const STDOUT: i32 = 1;
 
 // These bytes.
 pub(crate) fn put(s: &[u8]) {
-    io::write_all(STDOUT_FILENO, s);
+    io::write_all(STDOUT, s);
 }
 
 // A number in decimal.

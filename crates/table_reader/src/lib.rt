@@ -25,7 +25,7 @@ use page_table::{Kind, Lead, MOST_FIELDS, Row, Side};
 use wire::{Cursor, Header, Refusal};
 
 // What reading a message comes to, apart from its fields. `known` is the length of the known part.
-#[derive(Drop)]
+#[derive(Clone, Copy)]
 pub enum Answer {
     // A request of a method.
     Known {
@@ -72,7 +72,7 @@ pub enum Answer {
 // string, bytes: a part of the message; the number is where it begins, and it has `lens[i]` bytes.
 // strings: the number is where the first name begins, and `lens[i]` is how many there are.
 // Free are the length of a number, and what the slots behind the first `count` hold.
-#[derive(Drop)]
+#[derive(Clone, Copy)]
 pub struct Reading {
     pub answer: Answer,
     pub count: usize,
@@ -82,7 +82,7 @@ pub struct Reading {
 }
 
 // A field's slot, and the cursor behind it.
-#[derive(Drop)]
+#[derive(Clone, Copy)]
 struct SlotField {
     number: u64,
     len: usize,
@@ -90,14 +90,14 @@ struct SlotField {
 }
 
 // An answer, and how many slots are its fields'.
-#[derive(Drop)]
+#[derive(Clone, Copy)]
 struct Body {
     answer: Answer,
     count: usize,
 }
 
 // How many slots were filled, and the cursor behind the last field.
-#[derive(Drop)]
+#[derive(Clone, Copy)]
 struct Walked {
     count: usize,
     next: Cursor,

@@ -6,7 +6,7 @@ ghost use Rattle.wire.specs.Runs.{part_of, Shows};
 
 // A place of a message or of a lent buffer, or a refusal, which stays. Code 0: a place. Any other code: a refusal by its number, with its
 // place.
-#[derive(Drop)]
+#[derive(Clone, Copy)]
 pub struct Cursor {
     pub code: u8,
     pub at: usize,
@@ -63,7 +63,7 @@ impl Cursor {
 }
 
 // The numbers of refusal: document 01's, then document 02's. The word in brackets is document 01's.
-#[derive(Drop)]
+#[derive(Clone, Copy)]
 pub struct Refusal;
 
 impl Refusal {
@@ -117,7 +117,7 @@ impl Refusal {
 pub const LONGEST_MESSAGE: usize = 65536;
 
 // The header of a message.
-#[derive(Drop)]
+#[derive(Clone, Copy)]
 pub struct Header {
     pub id: u32,
     pub type_number: u8,
@@ -147,7 +147,7 @@ pub const COUNT_SIZE: usize = 4;
 pub const FIRST_NAME: usize = FIELDS_PLACE + COUNT_SIZE;
 
 // A part of a message: the bytes of a text or of data (document 01: run).
-#[derive(Drop)]
+#[derive(Clone, Copy)]
 pub struct Run {
     pub start: usize,
     pub len: usize,
@@ -162,7 +162,7 @@ impl Run {
 }
 
 // A time: seconds and nanoseconds.
-#[derive(Drop)]
+#[derive(Clone, Copy)]
 pub struct Timestamp {
     pub seconds: u64,
     pub nsec: u32,
@@ -174,7 +174,7 @@ impl Timestamp {
 }
 
 // What a getattr reply tells of a file.
-#[derive(Drop)]
+#[derive(Clone, Copy)]
 pub struct Attributes {
     pub inode: u64,
     pub nlink: u64,
@@ -195,7 +195,7 @@ impl Attributes {
 }
 
 // What a statfs reply tells of a file system.
-#[derive(Drop)]
+#[derive(Clone, Copy)]
 pub struct Statistics {
     pub bsize: u64,
     pub frsize: u64,

@@ -1,0 +1,14 @@
+-- `outstanding_bridges::empty` meets its contract. Assumes nothing.
+use mathlib.Core.Path.{◌≡◌, ap, ◌∙◌}
+use mathlib.Core.List.{List, map}
+use Rattle.outstanding_records.specs.declared.Record.{Record}
+use Rattle.outstanding.specs.Calls.{Performed, Told}
+use Rattle.outstanding_words.specs.Words.{word_of}
+use Rattle.outstanding_decisions.specs.Decisions.{told_of}
+use Rattle.outstanding_bridges.proofs.empty.Goals as goal
+
+pub returns : goal.returns
+returns c = (
+  ap told_of c.after_entry.ensures.0 ∙ ap (λ (w : Performed Told Record). w.told) c.empty-answer.ensures,
+  c.after_entry.ensures.1 ∙ ap (λ (w : Performed Told Record). map word_of w.table) c.empty-answer.ensures,
+)

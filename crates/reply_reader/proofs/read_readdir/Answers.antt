@@ -1,0 +1,12 @@
+-- `reply_reader::read_readdir` meets its contract. Assumes nothing.
+use mathlib.Core.Path.{refl}
+use borrow.Author.Rules.{rules}
+use Rattle.method.specs.Methods.{of_reply}
+use Rattle.layout.specs.Table.{plan}
+use Rattle.field_reader.specs.Cursors.{none, more}
+use Rattle.reply_reader.proofs.Answered.{answered}
+use Rattle.reply_reader.proofs.read_readdir.Goals as goal
+
+pub returns : goal.returns
+unfolding plan of_reply
+returns c = answered c.finish.ensures refl refl (more (rw c.requires.1 at c.names_at-count.ensures) none)

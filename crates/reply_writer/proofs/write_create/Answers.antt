@@ -1,0 +1,19 @@
+-- `reply_writer::write_create` meets its contract. Assumes nothing.
+use mathlib.Core.Path.{refl}
+use mir.Syntax.{w32}
+use mir.ValLaws.{to_z-of_z}
+use borrow.Author.Rules.{rules}
+use Rattle.number.specs.BigEndian.{bytes_of}
+use Rattle.method.specs.Methods.{of_reply}
+use Rattle.layout.specs.Table.{plan}
+use Rattle.field_writer.specs.Stored.{done, field}
+use Rattle.reply_writer.proofs.Replied.{numbers-reply}
+use Rattle.reply_writer.proofs.write_create.Goals as goal
+
+pub returns : goal.returns
+unfolding plan of_reply bytes_of
+returns c =
+    let early = c in
+    let x = early.args.res in
+    rw (← (to_z-of_z w32 x (search rules)))
+    (numbers-reply _ early.start-start.ensures c.finish.ensures refl refl refl (field c.put_u64-behind_handle.ensures done))

@@ -1,0 +1,15 @@
+-- `request_writer::write_chown` meets its contract. Assumes nothing.
+use mathlib.Core.Path.{refl}
+use borrow.Author.Rules.{rules}
+use Rattle.number.specs.BigEndian.{bytes_of}
+use Rattle.method.specs.Methods.{of_request}
+use Rattle.layout.specs.Table.{plan}
+use Rattle.field_writer.specs.Stored.{done, field}
+use Rattle.request_writer.proofs.Asked.{run-asks}
+use Rattle.request_writer.proofs.write_chown.Goals as goal
+
+pub returns : goal.returns
+unfolding plan of_request bytes_of
+returns c =
+    let early = c in
+    run-asks _ early.start_run-start.ensures c.finish.ensures refl refl refl refl refl (field early.put_u32-behind_uid.ensures (field c.put_u32-behind_gid.ensures done))

@@ -1,0 +1,29 @@
+-- `round_trip::request_back` meets its contract. Assumes nothing.
+use Prim.Native.Nat.{ℕ}
+use mathlib.Core.Path.{◌≡◌, sym, subst}
+use lib.ListN.{take}
+use lib.Seq.{length-take-le}
+use borrow.Author.Rules.{rules}
+use Rattle.layout.specs.Table.{request}
+use Rattle.layout.specs.Reading.{read}
+use Rattle.message_writer.proofs.Finished.{length-inside}
+use Rattle.request_reader.specs.Answers.{answer_of, method_of}
+use Rattle.request_rewriter.specs.Rewriting.{values_in}
+use Rattle.round_trip.proofs.Fitting.{request-fits}
+use Rattle.round_trip.proofs.Requests.{request-back}
+use Rattle.round_trip.proofs.request_back.Goals as goal
+
+pub slice_bounds-read_request-end : goal.slice_bounds-read_request-end
+slice_bounds-read_request-end c = rw c.len.ensures (length-inside _ _ _ _ _ _ _ _ c.write_request-written.ensures)
+
+pub slice_bounds-read_request-end-2 : goal.slice_bounds-read_request-end-2
+slice_bounds-read_request-end-2 c = sym (length-take-le _ _ (slice_bounds-read_request-end c))
+
+pub returns : goal.returns
+returns c =
+    let written = c in
+    let start = written in
+    let reads = subst (λ (k : ℕ). answer_of c.read_request-answer.result ≡ read request (take k written.write_request-written.new.out)) c.len.ensures c.read_request-answer.ensures in
+    let q = start.args.request in
+    let s = start.args.texts.now in
+    request-back start.args.out.now reads (method_of q) start.args.id (values_in s q) start.ranges.id.fits (request-fits s q _ c.well_formed.1.0) written.write_request-written.ensures
