@@ -10,8 +10,7 @@ use exports::TushaletsFronted;
 use front::Fronted;
 
 // Answers a request that needs no file system, or hands it on. `out` changes only where an answer is stored.
-#[unsafe(no_mangle)]
-pub extern "C" fn tushalets_front(message: &[u8], out: &mut [u8]) -> TushaletsFronted
+pub fn tushalets_front(message: &[u8], out: &mut [u8]) -> TushaletsFronted
     ensures value { result ≡ fronted_of (layout_front message.now out.old).act }
     ensures out_after { out.new ≡ (layout_front message.now out.old).buffer }
 {

@@ -26,8 +26,7 @@ pub struct TushaletsLooked {
 }
 
 // Frees every record. Answers 0, or the number of a refusal.
-#[unsafe(no_mangle)]
-pub extern "C" fn tushalets_empty(records: &mut [u64]) -> u32
+pub fn tushalets_empty(records: &mut [u64]) -> u32
     ensures value { result ≡ number_of (empty_in 0 records.old).told }
     ensures records_after { records.new ≡ (empty_in 0 records.old).table }
 {
@@ -49,8 +48,7 @@ fn clear(records: &mut [u64])
 }
 
 // Enters a request by its id and type. Answers 0, or the number of a refusal.
-#[unsafe(no_mangle)]
-pub extern "C" fn tushalets_enter(records: &mut [u64], id: u32, type_number: u8) -> u32
+pub fn tushalets_enter(records: &mut [u64], id: u32, type_number: u8) -> u32
     ensures value { result ≡ number_of (enter_in (records_of records.old) id type_number).told }
     ensures records_after { records.new ≡ after_words (enter_in (records_of records.old) id type_number).change records.old }
 {
@@ -62,8 +60,7 @@ pub extern "C" fn tushalets_enter(records: &mut [u64], id: u32, type_number: u8)
 }
 
 // Takes an arriving reply: the reading of it, and its record is free; or a refusal, and no word has changed.
-#[unsafe(no_mangle)]
-pub extern "C" fn tushalets_arrive(records: &mut [u64], message: &[u8]) -> TushaletsReading
+pub fn tushalets_arrive(records: &mut [u64], message: &[u8]) -> TushaletsReading
     ensures value { result ≡ reading_of (shown_of (arriving records.old message.now).told) }
     ensures records_after { records.new ≡ after_words (arriving records.old message.now).change records.old }
 {
@@ -74,8 +71,7 @@ pub extern "C" fn tushalets_arrive(records: &mut [u64], message: &[u8]) -> Tusha
 }
 
 // Shows how many requests are outstanding, and the one of an id.
-#[unsafe(no_mangle)]
-pub extern "C" fn tushalets_look(records: &[u64], id: u32) -> TushaletsLooked
+pub fn tushalets_look(records: &[u64], id: u32) -> TushaletsLooked
     ensures { result ≡ looked_of (look_at (records_of records.now) id) }
 {
     let looked = outstanding_decisions::look(records, id);

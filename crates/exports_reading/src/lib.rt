@@ -29,8 +29,7 @@ pub const FAILURE: u32 = 3;
 pub const SUCCESS: u32 = 4;
 
 // A request read. No message needs a check beforehand.
-#[unsafe(no_mangle)]
-pub extern "C" fn tushalets_read_request(message: &[u8]) -> TushaletsReading
+pub fn tushalets_read_request(message: &[u8]) -> TushaletsReading
     ensures { result ≡ reading_of (read request_side message.now) }
 {
     let answer = request_reader::read_request(message);
@@ -39,8 +38,7 @@ pub extern "C" fn tushalets_read_request(message: &[u8]) -> TushaletsReading
 }
 
 // A reply read.
-#[unsafe(no_mangle)]
-pub extern "C" fn tushalets_read_reply(message: &[u8]) -> TushaletsReading
+pub fn tushalets_read_reply(message: &[u8]) -> TushaletsReading
     ensures { result ≡ reading_of (read reply_side message.now) }
 {
     let answer = reply_reader::read_reply(message);
@@ -50,8 +48,7 @@ pub extern "C" fn tushalets_read_reply(message: &[u8]) -> TushaletsReading
 
 // The name at a position of a readdir reply. The first position is the pair of cells that the reading shows, the others are in the
 // steps. A position that was made up is harmless, but its name may be no text.
-#[unsafe(no_mangle)]
-pub extern "C" fn tushalets_next_name(message: &[u8], at: usize, left: u32) -> TushaletsName
+pub fn tushalets_next_name(message: &[u8], at: usize, left: u32) -> TushaletsName
     ensures { result ≡ name_of (step_at message.now (position at left)) }
 {
     let step = names::step_at(message, Position { at, left });

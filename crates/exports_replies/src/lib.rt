@@ -18,8 +18,7 @@ use method::Method;
 
 // A success. `run` is its text or data. The names of a readdir reply are `run`, one behind the other, and `lengths`; every other
 // reply leaves `lengths` aside. A getcreds reply has no result and leaves `result` aside.
-#[unsafe(no_mangle)]
-pub extern "C" fn tushalets_write_reply(
+pub fn tushalets_write_reply(
     id: u32,
     type_number: u8,
     res: i32,
@@ -36,8 +35,7 @@ pub extern "C" fn tushalets_write_reply(
 }
 
 // A failure: nine bytes.
-#[unsafe(no_mangle)]
-pub extern "C" fn tushalets_write_failure(
+pub fn tushalets_write_failure(
     id: u32,
     type_number: u8,
     code: i32,
@@ -51,8 +49,7 @@ pub extern "C" fn tushalets_write_failure(
 }
 
 // The unknown response: five bytes.
-#[unsafe(no_mangle)]
-pub extern "C" fn tushalets_write_unknown_response(id: u32, out: &mut [u8]) -> TushaletsWritten
+pub fn tushalets_write_unknown_response(id: u32, out: &mut [u8]) -> TushaletsWritten
     ensures value { result ≡ written_of (write reply unknown id unknown_response [] true out.old).told }
     ensures out_after { out.new ≡ (write reply unknown id unknown_response [] true out.old).buffer }
 {

@@ -16,8 +16,7 @@ use message_writer::Written;
 use method::Method;
 
 // A known request. `first` and `second` are its texts or data, in the order of the table: of a write request the path and the data.
-#[unsafe(no_mangle)]
-pub extern "C" fn tushalets_write_request(
+pub fn tushalets_write_request(
     id: u32,
     type_number: u8,
     numbers: &[u64; 5],
@@ -33,12 +32,7 @@ pub extern "C" fn tushalets_write_request(
 }
 
 // An unknown request: five bytes.
-#[unsafe(no_mangle)]
-pub extern "C" fn tushalets_write_unknown_request(
-    id: u32,
-    type_number: u8,
-    out: &mut [u8],
-) -> TushaletsWritten
+pub fn tushalets_write_unknown_request(id: u32, type_number: u8, out: &mut [u8]) -> TushaletsWritten
     ensures value { result ≡ written_of (write request unknown id type_number [] true out.old).told }
     ensures out_after { out.new ≡ (write request unknown id type_number [] true out.old).buffer }
 {

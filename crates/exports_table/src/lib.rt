@@ -29,8 +29,7 @@ struct Cells {
 }
 
 // A request read by its row of the table. No message needs a check beforehand.
-#[unsafe(no_mangle)]
-pub extern "C" fn tushalets_read_request_by_table(message: &[u8]) -> TushaletsReading
+pub fn tushalets_read_request_by_table(message: &[u8]) -> TushaletsReading
     ensures { result ≡ reading_of (read request_side message.now) }
 {
     let reading = table_reader::read(Side::Request, message);
@@ -38,8 +37,7 @@ pub extern "C" fn tushalets_read_request_by_table(message: &[u8]) -> TushaletsRe
 }
 
 // A reply read by its row of the table.
-#[unsafe(no_mangle)]
-pub extern "C" fn tushalets_read_reply_by_table(message: &[u8]) -> TushaletsReading
+pub fn tushalets_read_reply_by_table(message: &[u8]) -> TushaletsReading
     ensures { result ≡ reading_of (read reply_side message.now) }
 {
     let reading = table_reader::read(Side::Reply, message);

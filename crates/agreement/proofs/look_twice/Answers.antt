@@ -1,5 +1,4 @@
 -- `agreement::look_twice` meets its contract: by what each look promises. Assumes nothing.
-use borrow.Author.Rules.{rules}
 use Rattle.agreement.proofs.Agreeing.{agreeing}
 use Rattle.agreement.proofs.look_twice.Goals as goal
 

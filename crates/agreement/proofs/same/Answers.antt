@@ -1,9 +1,6 @@
 -- `agreement::same` meets its contract. Assumes nothing.
-use Prim.Native.Nat.{◌-◌}
 use native.Mathlib.Omega.{arith}
-use lib.ListN.{length}
-use borrow.Author.Rules.{rules}
-use Rattle.agreement.proofs.SameBytes.{SameSoFar, lengths_differ, from-the-first, one-differs, one_more, all_same}
+use Rattle.agreement.proofs.SameBytes.{lengths_differ, from-the-first, one-differs, one_more, all_same}
 use Rattle.agreement.proofs.same.Goals as goal
 
 pub returns-then-a-b : goal.returns-then-a-b

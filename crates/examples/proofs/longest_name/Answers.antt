@@ -1,15 +1,13 @@
 -- `examples::longest_name` meets its contract: what is left to meet, with the longest so far, leads to the whole. Assumes nothing.
-use mathlib.Core.Path.{◌≡◌, ◌∙◌}
-use borrow.Author.Rules.{rules}
+use mathlib.Core.Path.{◌∙◌}
 use native.Mathlib.Omega.{arith}
-use Rattle.layout.specs.Names.{steps}
 use Rattle.names.specs.Positions.{position_of}
-use Rattle.examples.specs.Longest.{longest, longest_name}
+use Rattle.examples.specs.Longest.{longest}
 use Rattle.examples.proofs.Longest.{turned, from-opened, at-end}
 use Rattle.examples.proofs.longest_name.Goals as goal
 
 pub loop-left-init : goal.loop-left-init
-loop-left-init c = from-opened _ _ c.«open».ensures
+loop-left-init c = from-opened _ _ c.open-position.ensures
 
 pub overflow_sub-left : goal.overflow_sub-left
 overflow_sub-left c = omega arith

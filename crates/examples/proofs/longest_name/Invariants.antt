@@ -1,11 +1,8 @@
 -- `examples::longest_name` meets its contract: what is left to meet, with the longest so far, leads to the whole. Assumes nothing.
-use mathlib.Core.Path.{◌≡◌, ◌∙◌}
-use borrow.Author.Rules.{rules}
-use native.Mathlib.Omega.{arith}
+use mathlib.Core.Path.{◌≡◌}
 use Rattle.layout.specs.Names.{steps}
 use Rattle.names.specs.Positions.{position_of}
 use Rattle.examples.specs.Longest.{longest, longest_name}
-use Rattle.examples.proofs.Longest.{turned, from-opened, at-end}
 use Rattle.examples.proofs.longest_name.Given as goal
 
 abbrev pub invariant-loop-left : goal.invariant-loop-left

@@ -1,5 +1,4 @@
 -- `examples::reply` meets its contract. Assumes nothing.
-use borrow.Author.Rules.{rules}
 use Rattle.examples.proofs.Kept.{written-rest}
 use Rattle.examples.proofs.reply.Goals as goal
 

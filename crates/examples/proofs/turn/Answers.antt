@@ -1,5 +1,4 @@
 -- `examples::turn` meets its contract. Assumes nothing.
-use borrow.Author.Rules.{rules}
 use Rattle.examples.proofs.Kept.{fronted-rest, kept_on}
 use Rattle.examples.proofs.turn.Goals as goal
 

@@ -1,15 +1,12 @@
 -- `exports_outstanding::clear` meets its contract. Assumes nothing.
-use mathlib.Core.Path.{◌≡◌, refl, sym, ◌∙◌}
-use Prim.Native.Nat.{ℕ, ◌-◌, ◌<◌, ◌≤◌}
+use mathlib.Core.Path.{refl, sym, ◌∙◌}
+use Prim.Native.Nat.{◌<◌}
 use native.Mathlib.Omega.{arith}
-use borrow.Author.Rules.{rules}
 use mathlib.Core.List.{map}
-use lib.ListN.{length, take, length-set}
+use lib.ListN.{length, length-set}
 use Rattle.outstanding.proofs.Lists.{map-length, get_d_map, copy-turn, copy_done}
+use Rattle.exports_outstanding.proofs.clear.Invariants.{zeroed}
 use Rattle.exports_outstanding.proofs.clear.Goals as goal
-
-abbrev zeroed : ℕ → ℕ
-zeroed w = 0
 
 pub loop-i-init : goal.loop-i-init
 loop-i-init c = (refl, refl, omega arith)

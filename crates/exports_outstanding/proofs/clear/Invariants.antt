@@ -1,12 +1,12 @@
 -- `exports_outstanding::clear` meets its contract. Assumes nothing.
-use mathlib.Core.Path.{◌≡◌, refl, sym, ◌∙◌}
-use Prim.Native.Nat.{ℕ, ◌-◌, ◌<◌, ◌≤◌}
-use native.Mathlib.Omega.{arith}
-use borrow.Author.Rules.{rules}
+use mathlib.Core.Path.{◌≡◌}
+use Prim.Native.Nat.{ℕ, ◌-◌, ◌≤◌}
 use mathlib.Core.List.{map}
-use lib.ListN.{length, take, length-set}
-use Rattle.outstanding.proofs.Lists.{map-length, get_d_map, copy-turn, copy_done}
+use lib.ListN.{length, take}
 use Rattle.exports_outstanding.proofs.clear.Given as goal
+
+abbrev pub zeroed : ℕ → ℕ
+zeroed w = 0
 
 -- the first i are 0
 abbrev pub invariant-loop-i : goal.invariant-loop-i

@@ -1,5 +1,4 @@
 -- `exports_reading::success_cells` meets its contract: in each arm the reply is of a known variant. Assumes nothing.
-use borrow.Author.Rules.{rules}
 use Rattle.layout.proofs.Iterating.{length-names_at}
 use Rattle.exports_reading.proofs.success_cells.Goals as goal
 

@@ -1,6 +1,5 @@
 -- `exports_reading::tushalets_read_request` meets its contract. Assumes nothing.
 use mathlib.Core.Path.{ap, ◌∙◌}
-use borrow.Author.Rules.{rules}
 use Rattle.layout.specs.Table.{request}
 use Rattle.exports.specs.Shown.{reading_of}
 use Rattle.exports_reading.proofs.Typed.{same-type}

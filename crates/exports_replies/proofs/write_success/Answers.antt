@@ -1,6 +1,5 @@
 -- `exports_replies::write_success` meets its contract: in each arm the type is known, and what is written is what its function
 -- ensures. Assumes nothing.
-use borrow.Author.Rules.{rules}
 use mir.Syntax.{w32}
 use mir.ValLaws.{to_z-of_z}
 use Rattle.method.specs.Methods.{of_reply}

@@ -1,5 +1,4 @@
 -- `field_reader::attributes_at` meets its contract. Assumes nothing.
-use borrow.Author.Rules.{rules}
 use Rattle.field_reader.specs.Cursors.{more}
 use Rattle.field_reader.proofs.Cursors.{two-more}
 use Rattle.field_reader.proofs.attributes_at.Goals as goal

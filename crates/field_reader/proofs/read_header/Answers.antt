@@ -1,6 +1,5 @@
 -- `field_reader::read_header` meets its contract. Assumes nothing.
 use native.Mathlib.Omega.{arith}
-use borrow.Author.Rules.{rules}
 use Rattle.field_reader.specs.Cursors.{none, more}
 use Rattle.field_reader.proofs.Headers.{header-truncated, header-oversize, header-found}
 use Rattle.field_reader.proofs.read_header.Goals as goal

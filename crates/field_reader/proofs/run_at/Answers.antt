@@ -1,7 +1,6 @@
 -- `field_reader::run_at` meets its contract: the run fits or not, and then its text is right or not. Assumes nothing.
 use mathlib.Core.Path.{◌≡◌, refl, ap, ◌∙◌}
 use mathlib.Core.Bool.{true, false}
-use borrow.Author.Rules.{rules}
 use Rattle.layout.specs.Values.{part}
 use native.Mathlib.Omega.{arith}
 use Prim.Native.Nat.{◌+◌, ◌≤◌}

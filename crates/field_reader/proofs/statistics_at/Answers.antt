@@ -1,5 +1,4 @@
 -- `field_reader::statistics_at` meets its contract. Assumes nothing.
-use borrow.Author.Rules.{rules}
 use Rattle.field_reader.specs.Cursors.{none, more}
 use Rattle.field_reader.proofs.statistics_at.Goals as goal
 

@@ -1,5 +1,4 @@
 -- `field_reader::type_of` meets its contract. Assumes nothing.
-use borrow.Author.Rules.{rules}
 use native.Mathlib.Omega.{arith}
 use Rattle.field_reader.proofs.Types.{type-none, type-byte}
 use Rattle.field_reader.proofs.type_of.Goals as goal

@@ -1,8 +1,7 @@
 -- `field_reader::word_at` meets its contract: a number that was found, or not. Assumes nothing.
 use mathlib.Core.Path.{◌≡◌, sym, ap, ◌∙◌}
-use borrow.Author.Rules.{rules}
 use native.Mathlib.Omega.{arith}
-use Rattle.number.specs.BigEndian.{whole, truncated, number_at}
+use Rattle.number.specs.BigEndian.{whole, number_at}
 use Rattle.number.specs.Answers.{found_u32}
 use Rattle.number.proofs.BigEndian.{whole-fits}
 use Rattle.layout.specs.Reading.{num_at}

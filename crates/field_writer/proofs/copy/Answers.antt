@@ -1,11 +1,9 @@
 -- `field_writer::copy` meets its contract. Assumes nothing.
 use mathlib.Core.Path.{◌≡◌, refl, ◌∙◌}
-use Prim.Native.Nat.{ℕ, ◌-◌, ◌≤◌}
 use native.Mathlib.Numerals.{add-one}
 use native.Mathlib.Omega.{arith}
 use lib.ListN.{length, length-set}
-use lib.Seq.{paste, paste-zero, paste-suc, take-length}
-use borrow.Author.Rules.{rules}
+use lib.Seq.{paste-zero, paste-suc, take-length}
 use Rattle.number.specs.BigEndian.{overwritten}
 use Rattle.field_writer.proofs.copy.Goals as goal
 

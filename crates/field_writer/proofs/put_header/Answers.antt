@@ -4,7 +4,6 @@ use Prim.Native.Nat.{ℕ}
 use native.Mathlib.Omega.{arith}
 use mathlib.Core.List.{List, ◌++◌, append-nil}
 use lib.ListN.{length-append}
-use borrow.Author.Rules.{rules}
 use Rattle.number.specs.BigEndian.{bytes_of}
 use Rattle.number.proofs.BigEndian.{length-bytes_of}
 use Rattle.field_writer.specs.Stored.{none, more}

@@ -4,7 +4,6 @@ use mathlib.Core.List.{List, ◌++◌, append-nil}
 use Prim.Native.Nat.{ℕ}
 use native.Mathlib.Omega.{arith}
 use lib.ListN.{length, length-append}
-use borrow.Author.Rules.{rules}
 use Rattle.number.specs.BigEndian.{bytes_of}
 use Rattle.number.proofs.BigEndian.{length-bytes_of}
 use Rattle.layout.specs.Writing.{sized}

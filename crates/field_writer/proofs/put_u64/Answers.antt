@@ -1,6 +1,5 @@
 -- `field_writer::put_u64` meets its contract. Assumes nothing.
 use native.Mathlib.Omega.{arith}
-use borrow.Author.Rules.{rules}
 use Rattle.number.proofs.BigEndian.{stored-fits}
 use Rattle.field_writer.proofs.Storing.{put-stays, number_put, number_short}
 use Rattle.field_writer.proofs.put_u64.Goals as goal

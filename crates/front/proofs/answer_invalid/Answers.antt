@@ -1,5 +1,4 @@
 -- `front::answer_invalid` meets its contract. Assumes nothing.
-use borrow.Author.Rules.{rules}
 use Rattle.front.proofs.Answering.{invalid-settles}
 use Rattle.front.proofs.answer_invalid.Goals as goal
 

@@ -1,6 +1,5 @@
 -- `front::answer_refused` meets its contract. Assumes nothing.
 use mathlib.Core.Path.{refl}
-use borrow.Author.Rules.{rules}
 use Rattle.layout.proofs.Fronting.{invalid-type}
 use Rattle.field_reader.proofs.Headers.{id-read}
 use Rattle.front.proofs.Answering.{header_refused, header-whole, oversize-answered, invalid-answered}

@@ -1,5 +1,4 @@
 -- `front::answer_unknown` meets its contract. Assumes nothing.
-use borrow.Author.Rules.{rules}
 use Rattle.front.proofs.Answering.{response-settles}
 use Rattle.front.proofs.answer_unknown.Goals as goal
 

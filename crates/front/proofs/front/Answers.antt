@@ -1,6 +1,5 @@
 -- `front::front` meets its contract. Assumes nothing.
 use mathlib.Core.Path.{refl, sym, ap, ◌∙◌}
-use borrow.Author.Rules.{rules}
 use Rattle.request_reader.specs.Answers.{answer_of}
 use Rattle.front.proofs.Answering.{known-handed-on, unknown-answered}
 use Rattle.front.proofs.front.Goals as goal

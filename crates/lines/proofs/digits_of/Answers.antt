@@ -1,5 +1,4 @@
 -- `lines::digits_of` meets its contract. Assumes nothing.
-use borrow.Author.Rules.{rules}
 use Rattle.lines.proofs.Decimals.{digits-made}
 use Rattle.lines.proofs.digits_of.Goals as goal
 

@@ -2,7 +2,6 @@
 use mathlib.Core.Path.{refl}
 use native.Mathlib.Omega.{arith}
 use lib.Dec.{lit<}
-use borrow.Author.Rules.{rules}
 use Rattle.field_writer.specs.Stored.{none, more}
 use Rattle.field_writer.proofs.Storing.{whole-put}
 use Rattle.lines.specs.Lines.{entry}

@@ -2,7 +2,6 @@
 use mathlib.Core.Path.{ap, ◌∙◌}
 use mir.Syntax.{w32}
 use mir.ValLaws.{to_z-of_z}
-use borrow.Author.Rules.{rules}
 use Rattle.number.specs.TwosComplement.{bits_of}
 use Rattle.lines.proofs.Decimals.{negative-text, positive-text}
 use Rattle.lines.proofs.put_integer.Goals as goal

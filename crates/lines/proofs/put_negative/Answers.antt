@@ -3,7 +3,6 @@ use mathlib.Core.Path.{ap}
 use mathlib.Core.List.{List, ◌∷◌, append-nil}
 use Prim.Native.Nat.{ℕ}
 use native.Mathlib.Omega.{arith}
-use borrow.Author.Rules.{rules}
 use Rattle.field_writer.specs.Stored.{none, more}
 use Rattle.field_writer.proofs.Storing.{whole-put}
 use Rattle.lines.specs.Lines.{decimal}

@@ -1,6 +1,5 @@
 -- `lines::put_signed` meets its contract: the number fits into its array. Assumes nothing.
 use lib.Dec.{lit≤}
-use borrow.Author.Rules.{rules}
 use Rattle.lines.proofs.Decimals.{integer-begins}
 use Rattle.lines.proofs.put_signed.Goals as goal
 

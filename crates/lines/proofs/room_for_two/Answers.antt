@@ -1,6 +1,5 @@
 -- `lines::room_for_two` meets its contract. Assumes nothing.
 use native.Mathlib.Omega.{arith}
-use borrow.Author.Rules.{rules}
 use Rattle.lines.proofs.Entries.{room-two, room-two-none}
 use Rattle.lines.proofs.room_for_two.Goals as goal
 

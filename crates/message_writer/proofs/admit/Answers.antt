@@ -1,5 +1,4 @@
 -- `message_writer::admit` meets its contract. Assumes nothing.
-use borrow.Author.Rules.{rules}
 use Rattle.message_writer.specs.Writers.{admitted}
 use Rattle.message_writer.proofs.admit.Goals as goal
 

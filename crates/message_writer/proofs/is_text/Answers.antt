@@ -1,8 +1,4 @@
 -- `message_writer::is_text` meets its contract. Assumes nothing.
-use mathlib.Core.Path.{ap}
-use lib.Dec.{eqb}
-use lib.ListN.{length}
-use borrow.Author.Rules.{rules}
 use Rattle.text.specs.Utf8.{well_formed}
 use Rattle.message_writer.proofs.is_text.Goals as goal
 

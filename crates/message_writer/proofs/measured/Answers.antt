@@ -1,7 +1,6 @@
 -- `message_writer::measured` meets its contract. Assumes nothing.
 use Prim.Native.Nat.{◌+◌}
 use native.Mathlib.Omega.{arith}
-use borrow.Author.Rules.{rules}
 use Rattle.message_writer.proofs.Writers.{admit-oversize, admit-no-room, admit-found}
 use Rattle.message_writer.proofs.measured.Goals as goal
 

@@ -1,6 +1,5 @@
 -- `method_names::name_of` meets its contract: the table is computed and compared as a whole. Assumes nothing.
 use native.Mathlib.Omega.{arith}
-use borrow.Author.Rules.{rules}
 use Rattle.method_names.proofs.Rows.{first-number, last-number, row_at}
 use Rattle.method_names.proofs.name_of.Goals as goal
 

@@ -1,5 +1,4 @@
 -- `names::count_of` meets its contract. Assumes nothing.
-use borrow.Author.Rules.{rules}
 use Rattle.names.proofs.count_of.Goals as goal
 
 pub returns-in-Success : goal.returns-in-Success

@@ -1,7 +1,6 @@
 -- `names::count_of_reply` meets its contract. Assumes nothing.
 use mathlib.Core.Path.{sym, ap}
 use lib.ListN.{length}
-use borrow.Author.Rules.{rules}
 use Rattle.layout.proofs.Iterating.{length-names_at}
 use Rattle.names.proofs.Replies.{split, other-nameless}
 use Rattle.names.proofs.count_of_reply.Goals as goal

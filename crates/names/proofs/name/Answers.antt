@@ -1,7 +1,6 @@
 -- `names::name` meets its contract. Assumes nothing.
 use mathlib.Core.Path.{ap}
 use Prim.Native.Nat.{ℕ, ◌+◌}
-use borrow.Author.Rules.{rules}
 use native.Mathlib.Omega.{arith}
 use Rattle.wire.proofs.Runs.{all-bytes, its-place}
 use Rattle.names.proofs.name.Goals as goal

@@ -1,6 +1,5 @@
 -- `names::open` meets its contract. Assumes nothing.
 use mathlib.Core.Path.{ap, ◌∙◌}
-use borrow.Author.Rules.{rules}
 use Rattle.layout.specs.Names.{opened}
 use Rattle.names.specs.Positions.{opened_by}
 use Rattle.names.proofs.open.Goals as goal

@@ -1,8 +1,7 @@
 -- `names::skip` meets its contract. What is left to pass over from `here` leads where all leads from the start. Assumes nothing.
-use mathlib.Core.Path.{◌≡◌, refl, sym, ap, ◌∙◌}
-use borrow.Author.Rules.{rules}
+use mathlib.Core.Path.{refl, sym, ap, ◌∙◌}
 use native.Mathlib.Omega.{arith}
-use Rattle.names.specs.Positions.{position_of, step_of, skipped}
+use Rattle.names.specs.Positions.{step_of}
 use Rattle.names.proofs.Skipping.{skip-none, skip-name, skip-end}
 use Rattle.names.proofs.skip.Goals as goal
 

@@ -1,9 +1,6 @@
 -- `names::skip` meets its contract. What is left to pass over from `here` leads where all leads from the start. Assumes nothing.
-use mathlib.Core.Path.{◌≡◌, refl, sym, ap, ◌∙◌}
-use borrow.Author.Rules.{rules}
-use native.Mathlib.Omega.{arith}
-use Rattle.names.specs.Positions.{position_of, step_of, skipped}
-use Rattle.names.proofs.Skipping.{skip-none, skip-name, skip-end}
+use mathlib.Core.Path.{◌≡◌}
+use Rattle.names.specs.Positions.{position_of, skipped}
 use Rattle.names.proofs.skip.Given as goal
 
 abbrev pub invariant-loop-left : goal.invariant-loop-left

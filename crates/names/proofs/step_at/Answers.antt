@@ -1,5 +1,4 @@
 -- `names::step_at` meets its contract. Assumes nothing.
-use borrow.Author.Rules.{rules}
 use native.Mathlib.Omega.{arith}
 use Rattle.layout.specs.Names.{step}
 use Rattle.names.proofs.Stepping.{step-name, step_end}

@@ -1,5 +1,5 @@
 -- `names_iterator::nth_name` meets its contract. That the name so met is the n-th is a law of crate `names`. Assumes nothing.
-use mathlib.Core.Path.{◌≡◌, ap, subst, ◌∙◌}
+use mathlib.Core.Path.{ap, subst, ◌∙◌}
 use mathlib.Core.List.{List}
 use Prim.Native.Nat.{ℕ}
 use denote.Ref.{Bor}

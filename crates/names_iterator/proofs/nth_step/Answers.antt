@@ -1,5 +1,5 @@
 -- `names_iterator::nth_step` meets its contract: the step behind `n` names, and where it leaves the iterator. Assumes nothing.
-use mathlib.Core.Path.{◌≡◌, ap, ◌∙◌}
+use mathlib.Core.Path.{ap, ◌∙◌}
 use mathlib.Core.List.{List}
 use Prim.Native.Nat.{ℕ}
 use denote.Ref.{Bor}
@@ -8,7 +8,6 @@ use Rattle.names.specs.declared.Step.{Step}
 use Rattle.names.specs.Positions.{behind}
 use Rattle.names.proofs.Skipping as law
 use Rattle.names_iterator.specs.declared.Iter.{Iter}
-use Rattle.names_iterator.specs.declared.Moved.{Moved}
 use Rattle.names_iterator.specs.Iterating.{Opened, Further, Takes, NthStep}
 use Rattle.names_iterator.proofs.Reaching.{reached}
 use Rattle.names_iterator.proofs.nth_step.Goals as goal

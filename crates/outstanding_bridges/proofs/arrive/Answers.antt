@@ -1,6 +1,6 @@
 -- `outstanding_bridges::arrive` meets its contract. Assumes nothing.
-use mathlib.Core.Path.{◌≡◌, ap, ◌∙◌}
-use mathlib.Core.List.{List, map}
+use mathlib.Core.Path.{ap, ◌∙◌}
+use mathlib.Core.List.{map}
 use Rattle.outstanding_records.specs.declared.Record.{Record}
 use Rattle.outstanding.specs.Calls.{Performed, Arrival}
 use Rattle.outstanding_words.specs.Words.{word_of}

@@ -1,6 +1,5 @@
 -- `outstanding_decisions::arrive` meets its contract. Assumes nothing.
 use mathlib.Core.Path.{refl, sym, ◌∙◌, ap}
-use borrow.Author.Rules.{rules}
 use borrow.Author.Tests.{not-true, not-false}
 use Rattle.layout.specs.Table.{reply}
 use Rattle.layout.specs.Reading.{read}

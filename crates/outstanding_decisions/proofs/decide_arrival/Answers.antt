@@ -1,12 +1,9 @@
 -- `outstanding_decisions::decide_arrival` meets its contract. Assumes nothing.
-use mathlib.Core.Path.{refl, sym, ◌∙◌, ap, subst}
-use borrow.Author.Rules.{rules}
+use mathlib.Core.Path.{refl, sym, ◌∙◌, ap}
 use Rattle.layout.specs.Table.{reply}
 use Rattle.layout.specs.Reading.{read}
-use Rattle.outstanding_records.specs.declared.Record.TheVariants.{Free}
-use Rattle.outstanding.specs.Calls.{arrive}
 use Rattle.outstanding.proofs.Cases.{other-size, arrive-unsound}
-use Rattle.outstanding_decisions.specs.Decisions.{arrival_of, Decided}
+use Rattle.outstanding_decisions.specs.Decisions.{arrival_of}
 use Rattle.outstanding_decisions.proofs.Deciding.{stops}
 use Rattle.outstanding_decisions.proofs.decide_arrival.Goals as goal
 

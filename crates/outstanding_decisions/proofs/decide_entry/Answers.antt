@@ -1,9 +1,6 @@
 -- `outstanding_decisions::decide_entry` meets its contract. Assumes nothing.
-use mathlib.Core.Path.{sym, ◌∙◌, subst}
-use borrow.Author.Rules.{rules}
-use Rattle.outstanding.specs.Calls.{enter}
+use mathlib.Core.Path.{sym, ◌∙◌}
 use Rattle.outstanding.proofs.Cases.{other-size, enter-unsound}
-use Rattle.outstanding_decisions.specs.Decisions.{told_of, Decided}
 use Rattle.outstanding_decisions.proofs.Deciding.{stops}
 use Rattle.outstanding_decisions.proofs.decide_entry.Goals as goal
 

@@ -1,7 +1,5 @@
 -- `outstanding_decisions::decide_look` meets its contract. Assumes nothing.
-use mathlib.Core.Path.{sym, ◌∙◌, ap}
-use borrow.Author.Rules.{rules}
-use Rattle.outstanding.specs.Calls.{look}
+use mathlib.Core.Path.{sym, ◌∙◌}
 use Rattle.outstanding.proofs.Cases.{other-size, look-unsound}
 use Rattle.outstanding_decisions.proofs.decide_look.Goals as goal
 

@@ -1,6 +1,5 @@
 -- `outstanding_decisions::enter` meets its contract. Assumes nothing.
 use mathlib.Core.Path.{sym, ◌∙◌}
-use borrow.Author.Rules.{rules}
 use borrow.Author.Tests.{not-true, not-false}
 use Rattle.outstanding.proofs.Cases.{enter-unsound, enter-sound}
 use Rattle.outstanding_words.specs.Words.{records}

@@ -1,6 +1,5 @@
 -- `outstanding_decisions::insert` meets its contract. Assumes nothing.
 use mathlib.Core.Path.{refl}
-use borrow.Author.Rules.{rules}
 use Rattle.outstanding.specs.Records.{is_free, holds_id}
 use Rattle.outstanding.proofs.Cases.{insert-reply-type, insert-outstanding, insert-full, insert-done}
 use Rattle.outstanding_words.specs.Words.{records}

@@ -1,6 +1,5 @@
 -- `outstanding_decisions::look` meets its contract. Assumes nothing.
 use mathlib.Core.Path.{refl, sym, ◌∙◌}
-use borrow.Author.Rules.{rules}
 use borrow.Author.Tests.{not-true, not-false}
 use Rattle.outstanding.proofs.Cases.{look-unsound, look-sound}
 use Rattle.outstanding_words.specs.Words.{records}

@@ -1,6 +1,5 @@
 -- `outstanding_decisions::request_of` meets its contract. Assumes nothing.
 use mathlib.Core.Path.{sym, ◌∙◌, ap}
-use borrow.Author.Rules.{rules}
 use Rattle.outstanding.specs.Records.{holds_id}
 use Rattle.outstanding.proofs.Maps.{lookup_absent}
 use Rattle.outstanding_words.specs.Words.{records}

@@ -1,9 +1,7 @@
 -- `outstanding_decisions::settle` meets its contract. Assumes nothing.
-use mathlib.Core.Path.{refl, sym, ◌∙◌, ap}
-use borrow.Author.Rules.{rules}
+use mathlib.Core.Path.{sym, ◌∙◌}
 use Rattle.outstanding_words.specs.Words.{records}
-use Rattle.outstanding_decisions.specs.Decisions.{arrival_of}
-use Rattle.outstanding_decisions.proofs.Deciding.{stops-in, settle-accepted, settle-refused}
+use Rattle.outstanding_decisions.proofs.Deciding.{settle-accepted}
 use Rattle.outstanding_decisions.proofs.settle.Goals as goal
 
 pub returns-in-Accepted : goal.returns-in-Accepted

@@ -1,6 +1,5 @@
 -- `outstanding_decisions::settle_accepted` meets its contract. Assumes nothing.
 use mathlib.Core.Path.{refl, sym, ◌∙◌, ap}
-use borrow.Author.Rules.{rules}
 use borrow.Author.Tests.{not-true, not-false}
 use Rattle.reply_reader.specs.Answers.{answer_of}
 use Rattle.outstanding.specs.Records.{holds_id}

@@ -1,6 +1,6 @@
 -- `outstanding_table::arrive` meets its contract: what is decided on a copy is what the call comes to, once the record is free.
 -- Assumes nothing.
-use mathlib.Core.Path.{◌≡◌, refl, ap, ◌∙◌}
+use mathlib.Core.Path.{refl, ap, ◌∙◌}
 use Rattle.outstanding.specs.Calls.{performed}
 use Rattle.outstanding_decisions.specs.Decisions.{arrival_of}
 use Rattle.outstanding_decisions.proofs.Deciding.{performs}

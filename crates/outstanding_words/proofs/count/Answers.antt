@@ -1,13 +1,8 @@
 -- `outstanding_words::count` meets its contract. Assumes nothing.
-use mathlib.Core.Path.{◌≡◌, sym}
-use Prim.Native.Nat.{◌+◌, ◌-◌, ◌≤◌}
+use mathlib.Core.Path.{sym}
 use native.Mathlib.Omega.{arith}
 use native.Mathlib.Nat.{zero-add}
-use borrow.Author.Rules.{rules}
-use lib.ListN.{length}
-use Rattle.outstanding.specs.Records.{ids}
-use Rattle.outstanding_words.specs.Words.{records}
-use Rattle.outstanding_words.proofs.Scans.{left, count-later, count_past}
+use Rattle.outstanding_words.proofs.Scans.{count-later, count_past}
 use Rattle.outstanding_words.proofs.count.Goals as goal
 
 pub loop-i-init : goal.loop-i-init

@@ -1,13 +1,10 @@
 -- `outstanding_words::count` meets its contract. Assumes nothing.
-use mathlib.Core.Path.{◌≡◌, sym}
+use mathlib.Core.Path.{◌≡◌}
 use Prim.Native.Nat.{◌+◌, ◌-◌, ◌≤◌}
-use native.Mathlib.Omega.{arith}
-use native.Mathlib.Nat.{zero-add}
-use borrow.Author.Rules.{rules}
 use lib.ListN.{length}
 use Rattle.outstanding.specs.Records.{ids}
 use Rattle.outstanding_words.specs.Words.{records}
-use Rattle.outstanding_words.proofs.Scans.{left, count-later, count_past}
+use Rattle.outstanding_words.proofs.Scans.{left}
 use Rattle.outstanding_words.proofs.count.Given as goal
 
 -- those counted and those from i on are all

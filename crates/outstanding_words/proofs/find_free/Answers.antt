@@ -1,13 +1,9 @@
 -- `outstanding_words::find_free` meets its contract. Assumes nothing.
-use mathlib.Core.Path.{◌≡◌, sym, ◌∙◌}
-use Prim.Native.Nat.{◌+◌, ◌-◌, ◌≤◌}
+use mathlib.Core.Path.{sym, ◌∙◌}
 use native.Mathlib.Omega.{arith}
 use native.Mathlib.Nat.{zero-add}
-use borrow.Author.Rules.{rules}
-use lib.ListN.{length}
-use Rattle.outstanding.specs.Records.{is_free, first}
-use Rattle.outstanding_words.specs.Words.{records}
-use Rattle.outstanding_words.proofs.Scans.{left, first-here, first-later, first_past}
+use Rattle.outstanding.specs.Records.{is_free}
+use Rattle.outstanding_words.proofs.Scans.{first-here, first-later, first_past}
 use Rattle.outstanding_words.proofs.find_free.Goals as goal
 
 pub loop-i-init : goal.loop-i-init

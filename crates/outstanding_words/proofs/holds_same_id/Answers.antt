@@ -1,5 +1,4 @@
 -- `outstanding_words::holds_same_id` meets its contract. Assumes nothing.
-use borrow.Author.Rules.{rules}
 use Rattle.outstanding_words.specs.Words.{record_of}
 use Rattle.outstanding_words.proofs.Words.{same_test}
 use Rattle.outstanding_words.proofs.holds_same_id.Goals as goal

@@ -1,5 +1,4 @@
 -- `outstanding_words::in_bounds` meets its contract. Assumes nothing.
-use borrow.Author.Rules.{rules}
 use Rattle.outstanding_words.proofs.Words.{bounds-test}
 use Rattle.outstanding_words.proofs.in_bounds.Goals as goal
 

@@ -1,14 +1,10 @@
 -- `outstanding_words::is_sound` meets its contract. Assumes nothing.
-use mathlib.Core.Path.{◌≡◌, refl, sym, ◌∙◌}
-use mathlib.Core.Bool.{◌||◌}
-use Prim.Native.Nat.{◌-◌, ◌≤◌}
+use mathlib.Core.Path.{refl, sym, ◌∙◌}
 use native.Mathlib.Omega.{arith}
-use borrow.Author.Rules.{rules}
 use borrow.Author.Tests.{not-true, not-false}
-use lib.ListN.{length}
-use Rattle.outstanding.specs.Records.{same_id, any}
-use Rattle.outstanding_words.specs.Words.{record_of, records}
-use Rattle.outstanding_words.proofs.Scans.{left, soundly, any-turn, any-end, scan-free, scan-out-of-bounds, scan-repeated, scan-later, scan-past, other-number, full-number}
+use Rattle.outstanding.specs.Records.{same_id}
+use Rattle.outstanding_words.specs.Words.{record_of}
+use Rattle.outstanding_words.proofs.Scans.{any-turn, any-end, scan-free, scan-out-of-bounds, scan-repeated, scan-later, scan-past, other-number, full-number}
 use Rattle.outstanding_words.proofs.is_sound.Goals as goal
 
 pub returns-then-words-ne-SIZE : goal.returns-then-words-ne-SIZE

@@ -1,14 +1,11 @@
 -- `outstanding_words::is_sound` meets its contract. Assumes nothing.
-use mathlib.Core.Path.{◌≡◌, refl, sym, ◌∙◌}
+use mathlib.Core.Path.{◌≡◌}
 use mathlib.Core.Bool.{◌||◌}
 use Prim.Native.Nat.{◌-◌, ◌≤◌}
-use native.Mathlib.Omega.{arith}
-use borrow.Author.Rules.{rules}
-use borrow.Author.Tests.{not-true, not-false}
 use lib.ListN.{length}
 use Rattle.outstanding.specs.Records.{same_id, any}
 use Rattle.outstanding_words.specs.Words.{record_of, records}
-use Rattle.outstanding_words.proofs.Scans.{left, soundly, any-turn, any-end, scan-free, scan-out-of-bounds, scan-repeated, scan-later, scan-past, other-number, full-number}
+use Rattle.outstanding_words.proofs.Scans.{left, soundly}
 use Rattle.outstanding_words.proofs.is_sound.Given as goal
 
 -- the id of w is held from i on where it was met again, or is held from j on

@@ -1,5 +1,4 @@
 -- `outstanding_words::record_of` meets its contract. Assumes nothing.
-use borrow.Author.Rules.{rules}
 use borrow.Author.Tests.{ne_eqb}
 use Rattle.outstanding_words.specs.Words.{record_of}
 use Rattle.outstanding_words.proofs.record_of.Goals as goal

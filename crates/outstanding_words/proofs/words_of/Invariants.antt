@@ -1,13 +1,9 @@
 -- `outstanding_words::words_of` meets its contract. Assumes nothing.
-use mathlib.Core.Path.{◌≡◌, refl, sym, ◌∙◌}
+use mathlib.Core.Path.{◌≡◌}
 use mathlib.Core.List.{map}
 use Prim.Native.Nat.{◌-◌, ◌≤◌}
-use native.Mathlib.Omega.{arith}
-use borrow.Author.Rules.{rules}
-use lib.ListN.{length, take, length-set}
-use Rattle.outstanding_records.specs.declared.Record.TheVariants.{Free}
-use Rattle.outstanding.proofs.Lists.{map-length, map-set, get_d_map, copy-turn, copy_done}
-use Rattle.outstanding_words.specs.Words.{word_of, record_of, records}
+use lib.ListN.{length, take}
+use Rattle.outstanding_words.specs.Words.{word_of, records}
 use Rattle.outstanding_words.proofs.words_of.Given as goal
 
 -- the first i words are those of the records, and are read as these

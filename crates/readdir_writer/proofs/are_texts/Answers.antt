@@ -1,9 +1,6 @@
 -- `readdir_writer::are_texts` meets its contract. Assumes nothing.
-use Prim.Native.Nat.{◌-◌}
-use lib.ListN.{length}
 use native.Mathlib.Omega.{arith}
-use borrow.Author.Rules.{rules}
-use Rattle.readdir_writer.proofs.Lengths.{TextsLeft, texts-all, texts-end, texts-stop, texts-next, placed-fits}
+use Rattle.readdir_writer.proofs.Lengths.{texts-all, texts-end, texts-stop, texts-next, placed-fits}
 use Rattle.readdir_writer.proofs.are_texts.Goals as goal
 
 pub loop-i-init : goal.loop-i-init

@@ -1,9 +1,7 @@
 -- `readdir_writer::are_texts` meets its contract. Assumes nothing.
 use Prim.Native.Nat.{◌-◌}
 use lib.ListN.{length}
-use native.Mathlib.Omega.{arith}
-use borrow.Author.Rules.{rules}
-use Rattle.readdir_writer.proofs.Lengths.{TextsLeft, texts-all, texts-end, texts-stop, texts-next, placed-fits}
+use Rattle.readdir_writer.proofs.Lengths.{TextsLeft}
 use Rattle.readdir_writer.proofs.are_texts.Given as goal
 
 abbrev pub invariant-loop-i : goal.invariant-loop-i

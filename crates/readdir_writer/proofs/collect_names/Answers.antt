@@ -1,6 +1,5 @@
 -- `readdir_writer::collect_names` meets its contract. Assumes nothing.
 use mathlib.Core.Path.{refl, sym, ◌∙◌}
-use borrow.Author.Rules.{rules}
 use Rattle.readdir_writer.proofs.Copying.{room_for, collects-all}
 use Rattle.readdir_writer.proofs.collect_names.Goals as goal
 

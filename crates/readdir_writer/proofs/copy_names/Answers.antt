@@ -5,8 +5,8 @@ use native.Mathlib.Omega.{arith}
 use borrow.Author.Rules.{rules}
 use Rattle.layout.specs.Values.{part}
 use Rattle.layout.specs.Names.{first_name}
-use Rattle.readdir_writer.proofs.Taking.{NameHere, name-given, names_on, names-next, joined_length, names-none, names-ended}
-use Rattle.readdir_writer.proofs.Copying.{CopyLeft, copy-all, copy-end, copy-index, copy-next}
+use Rattle.readdir_writer.proofs.Taking.{NameHere, name-given, names-next, joined_length, names-none, names-ended}
+use Rattle.readdir_writer.proofs.Copying.{copy-all, copy-end, copy-index, copy-next}
 use Rattle.readdir_writer.proofs.copy_names.Goals as goal
 use Rattle.readdir_writer.proofs.copy_names.Goals.{In-Name}
 

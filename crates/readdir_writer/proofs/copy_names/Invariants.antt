@@ -1,12 +1,6 @@
 -- `readdir_writer::copy_names` meets its contract. Assumes nothing.
-use mathlib.Core.Path.{sym, ◌∙◌}
-use Prim.Native.Nat.{◌+◌}
-use native.Mathlib.Omega.{arith}
-use borrow.Author.Rules.{rules}
-use Rattle.layout.specs.Values.{part}
-use Rattle.layout.specs.Names.{first_name}
-use Rattle.readdir_writer.proofs.Taking.{NameHere, name-given, names_on, names-next, joined_length, names-none, names-ended}
-use Rattle.readdir_writer.proofs.Copying.{CopyLeft, copy-all, copy-end, copy-index, copy-next}
+use Rattle.readdir_writer.proofs.Taking.{names_on}
+use Rattle.readdir_writer.proofs.Copying.{CopyLeft}
 use Rattle.readdir_writer.proofs.copy_names.Given as goal
 
 abbrev pub invariant-loop-left : goal.invariant-loop-left

@@ -2,10 +2,9 @@
 use mathlib.Core.Path.{sym, ◌∙◌}
 use Prim.Native.Nat.{◌+◌}
 use native.Mathlib.Omega.{arith}
-use borrow.Author.Rules.{rules}
 use Rattle.layout.specs.Values.{part}
-use Rattle.readdir_writer.proofs.Taking.{NameHere, name-given, names_on, names-next, names-none, names-ended}
-use Rattle.readdir_writer.proofs.Copying.{CountLeft, count-all, count-end, names-full, bytes-full, count_next}
+use Rattle.readdir_writer.proofs.Taking.{NameHere, name-given, names-next, names-none, names-ended}
+use Rattle.readdir_writer.proofs.Copying.{count-all, count-end, names-full, bytes-full, count_next}
 use Rattle.readdir_writer.proofs.count_names.Goals as goal
 use Rattle.readdir_writer.proofs.count_names.Goals.{In-Name}
 

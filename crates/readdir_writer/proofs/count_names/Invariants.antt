@@ -1,11 +1,6 @@
 -- `readdir_writer::count_names` meets its contract. Assumes nothing.
-use mathlib.Core.Path.{sym, ◌∙◌}
-use Prim.Native.Nat.{◌+◌}
-use native.Mathlib.Omega.{arith}
-use borrow.Author.Rules.{rules}
-use Rattle.layout.specs.Values.{part}
-use Rattle.readdir_writer.proofs.Taking.{NameHere, name-given, names_on, names-next, names-none, names-ended}
-use Rattle.readdir_writer.proofs.Copying.{CountLeft, count-all, count-end, names-full, bytes-full, count_next}
+use Rattle.readdir_writer.proofs.Taking.{names_on}
+use Rattle.readdir_writer.proofs.Copying.{CountLeft}
 use Rattle.readdir_writer.proofs.count_names.Given as goal
 
 abbrev pub invariant-loop-left : goal.invariant-loop-left

@@ -3,7 +3,6 @@ use mathlib.Core.Path.{◌≡◌, sym, ap, ◌∙◌}
 use Prim.Native.Nat.{◌+◌, ◌≤◌}
 use native.Mathlib.Omega.{arith}
 use lib.ListN.{length}
-use borrow.Author.Rules.{rules}
 use Rattle.number.specs.BigEndian.{whole, number_at}
 use Rattle.number.specs.Answers.{found_u32}
 use Rattle.number.proofs.BigEndian.{whole-fits}

@@ -1,9 +1,6 @@
 -- `readdir_writer::sums_to` meets its contract. Assumes nothing.
-use Prim.Native.Nat.{◌-◌}
-use lib.ListN.{length}
 use native.Mathlib.Omega.{arith}
-use borrow.Author.Rules.{rules}
-use Rattle.readdir_writer.proofs.Lengths.{Left, left-all, left-short, left-next, left_end}
+use Rattle.readdir_writer.proofs.Lengths.{left-all, left-short, left-next, left_end}
 use Rattle.readdir_writer.proofs.sums_to.Goals as goal
 
 pub loop-i-init : goal.loop-i-init

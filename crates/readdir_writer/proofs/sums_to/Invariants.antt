@@ -1,9 +1,7 @@
 -- `readdir_writer::sums_to` meets its contract. Assumes nothing.
 use Prim.Native.Nat.{◌-◌}
 use lib.ListN.{length}
-use native.Mathlib.Omega.{arith}
-use borrow.Author.Rules.{rules}
-use Rattle.readdir_writer.proofs.Lengths.{Left, left-all, left-short, left-next, left_end}
+use Rattle.readdir_writer.proofs.Lengths.{Left}
 use Rattle.readdir_writer.proofs.sums_to.Given as goal
 
 abbrev pub invariant-loop-i : goal.invariant-loop-i

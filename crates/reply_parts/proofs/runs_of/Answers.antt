@@ -1,6 +1,5 @@
 -- `reply_parts::runs_of` meets its contract. Assumes nothing.
 use mathlib.Core.Path.{◌∙◌, sym}
-use borrow.Author.Rules.{rules}
 use Rattle.method.specs.Methods.{of_reply}
 use Rattle.layout.specs.Table.{reply}
 use Rattle.layout.specs.Parts.{fields_of}

@@ -1,6 +1,5 @@
 -- `reply_parts::runs_of_reply` meets its contract. Assumes nothing.
 use mathlib.Core.Path.{◌∙◌}
-use borrow.Author.Rules.{rules}
 use Rattle.method.specs.Methods.{of_reply}
 use Rattle.layout.specs.Parts.{fields_of}
 use Rattle.reply_parts.proofs.Runless.{split, other-runless}

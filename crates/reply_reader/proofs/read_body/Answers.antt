@@ -1,6 +1,4 @@
 -- `reply_reader::read_body` meets its contract: the type decides, or leads on. Assumes nothing.
-use mathlib.Core.Path.{refl}
-use borrow.Author.Rules.{rules}
 use native.Mathlib.Omega.{arith}
 use Rattle.layout.specs.Table.{plan}
 use Rattle.reply_reader.specs.Answers.{answer_at}

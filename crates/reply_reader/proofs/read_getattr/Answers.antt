@@ -1,6 +1,5 @@
 -- `reply_reader::read_getattr` meets its contract. Assumes nothing.
 use mathlib.Core.Path.{refl}
-use borrow.Author.Rules.{rules}
 use Rattle.method.specs.Methods.{of_reply}
 use Rattle.layout.specs.Table.{plan}
 use Rattle.reply_reader.proofs.Answered.{answered}

@@ -1,6 +1,5 @@
 -- `reply_reader::read_getcreds` meets its contract. Assumes nothing.
-use mathlib.Core.Path.{refl, ◌∙◌}
-use borrow.Author.Rules.{rules}
+use mathlib.Core.Path.{refl}
 use borrow.Author.Tests.{eq-eqb, ne_eqb}
 use Rattle.method.specs.Methods.{of_reply}
 use Rattle.layout.specs.Table.{plan}

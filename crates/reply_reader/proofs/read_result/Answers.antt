@@ -12,7 +12,7 @@ use Rattle.number.proofs.TwosComplement.{kept-casts}
 use Rattle.layout.specs.Kinds.{i32}
 use Rattle.layout.specs.Values.{Part, Value}
 use Rattle.layout.specs.Reading.{value_of}
-use Rattle.layout.proofs.ReplyTypes.{Led, led-type}
+use Rattle.layout.proofs.ReplyTypes.{led-type}
 use Rattle.reply_reader.specs.Answers.{answer_at, success_at}
 use Rattle.field_reader.proofs.Cursors.{number_behind}
 use Rattle.reply_reader.proofs.Answered.{zero-or-more, small_result, leads-on, result-refused, result-failure}

@@ -1,6 +1,5 @@
 -- `reply_reader::read_success` meets its contract: an arm is what its function ensures, and nothing is left for the rest. Assumes nothing.
 use mathlib.Core.Path.{refl}
-use borrow.Author.Rules.{rules}
 use Rattle.method.specs.Methods.{of_reply}
 use Rattle.layout.specs.Table.{plan}
 use Rattle.field_reader.specs.Cursors.{none}

@@ -2,11 +2,10 @@
 use mathlib.Core.Path.{refl, sym, ◌∙◌}
 use Prim.Native.Nat.{ℕ, ◌+◌}
 use native.Mathlib.Omega.{arith}
-use borrow.Author.Rules.{rules}
 use Rattle.layout.specs.Values.{part}
 use Rattle.layout.specs.Names.{first_name}
 use Rattle.readdir_writer.proofs.Taking.{NameHere, name-given, names-none, names-ended}
-use Rattle.reply_rewriter.proofs.Meeting.{Left, left-all, left-fits, left-next, left_end}
+use Rattle.reply_rewriter.proofs.Meeting.{left-all, left-fits, left-next, left_end}
 use Rattle.reply_rewriter.proofs.meet_names.Goals as goal
 use Rattle.reply_rewriter.proofs.meet_names.Goals.{In-Name}
 

@@ -19,4 +19,3 @@ returns-in-Getattr c = rw c.in-Getattr.is (rw (bits-of (goal.at.returns-in-Getat
 
 pub returns-in-Readdir : goal.returns-in-Readdir
 returns-in-Readdir c = rw (c.in-Readdir.is, length-names_at c.in-Readdir.count c.args.m.now first_name) (rw (bits-of (goal.at.returns-in-Readdir c).Start) at c.write_readdir.ensures)
-

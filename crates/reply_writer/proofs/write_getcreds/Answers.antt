@@ -1,6 +1,5 @@
 -- `reply_writer::write_getcreds` meets its contract. Assumes nothing.
 use mathlib.Core.Path.{refl}
-use borrow.Author.Rules.{rules}
 use Rattle.method.specs.Methods.{of_reply}
 use Rattle.layout.specs.Table.{plan}
 use Rattle.reply_writer.proofs.Replied.{plain-reply}

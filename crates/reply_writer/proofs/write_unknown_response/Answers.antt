@@ -1,5 +1,4 @@
 -- `reply_writer::write_unknown_response` meets its contract. Assumes nothing.
-use borrow.Author.Rules.{rules}
 use Rattle.layout.specs.Table.{plan}
 use Rattle.layout.specs.Writing.{encode_message, write}
 use Rattle.message_writer.proofs.Writers.{headed}

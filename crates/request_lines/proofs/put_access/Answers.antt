@@ -1,7 +1,6 @@
 -- `request_lines::put_access` meets its contract. Assumes nothing.
-use borrow.Author.Rules.{rules}
 use Rattle.lines.proofs.Adding.{more, none}
-use Rattle.request_lines.proofs.Widening.{widened-fits, widened_is}
+use Rattle.request_lines.proofs.Widening.{widened_is}
 use Rattle.request_lines.proofs.put_access.Goals as goal
 
 pub returns : goal.returns

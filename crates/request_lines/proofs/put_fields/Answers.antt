@@ -1,7 +1,4 @@
 -- `request_lines::put_fields` meets its contract: in each arm the request is of a known variant. Assumes nothing.
-use mir.Syntax.{w8, w32}
-use mir.ValLaws.{to_z-of_z}
-use borrow.Author.Rules.{rules}
 use Rattle.lines.proofs.Adding.{none}
 use Rattle.request_lines.proofs.put_fields.Goals as goal
 

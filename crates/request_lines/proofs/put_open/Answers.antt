@@ -1,7 +1,6 @@
 -- `request_lines::put_open` meets its contract. Assumes nothing.
 use mir.Syntax.{w32}
 use mir.ValLaws.{to_z-of_z}
-use borrow.Author.Rules.{rules}
 use Rattle.lines.proofs.Adding.{more, none}
 use Rattle.request_lines.proofs.put_open.Goals as goal
 

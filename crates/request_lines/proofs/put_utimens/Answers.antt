@@ -1,5 +1,4 @@
 -- `request_lines::put_utimens` meets its contract. Assumes nothing.
-use borrow.Author.Rules.{rules}
 use Rattle.lines.proofs.Adding.{more, none, two-more}
 use Rattle.request_lines.proofs.put_utimens.Goals as goal
 

@@ -1,5 +1,4 @@
 -- `request_lines::put_write` meets its contract. Assumes nothing.
-use borrow.Author.Rules.{rules}
 use Rattle.lines.proofs.Adding.{more, none}
 use Rattle.request_lines.proofs.put_write.Goals as goal
 

@@ -1,5 +1,4 @@
 -- `request_listing::put_known` meets its contract. Assumes nothing.
-use borrow.Author.Rules.{rules}
 use Rattle.lines.proofs.Adding.{more, none, lines_then}
 use Rattle.request_listing.proofs.Rendering.{named}
 use Rattle.request_listing.proofs.put_known.Goals as goal

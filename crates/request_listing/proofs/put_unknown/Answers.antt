@@ -1,5 +1,4 @@
 -- `request_listing::put_unknown` meets its contract. Assumes nothing.
-use borrow.Author.Rules.{rules}
 use Rattle.lines.proofs.Adding.{more, none}
 use Rattle.request_listing.proofs.put_unknown.Goals as goal
 

@@ -1,6 +1,5 @@
 -- `request_parts::runs_of` meets its contract. Assumes nothing.
 use mathlib.Core.Path.{◌∙◌, sym}
-use borrow.Author.Rules.{rules}
 use Rattle.layout.specs.Table.{request}
 use Rattle.layout.specs.Parts.{fields_of}
 use Rattle.request_parts.proofs.Nameless.{unknown-nameless}

@@ -1,5 +1,4 @@
 -- `request_parts::runs_of_request` meets its contract: in each arm the request is of a known variant. Assumes nothing.
-use borrow.Author.Rules.{rules}
 use Rattle.method.specs.Methods.{of_request}
 use Rattle.layout.specs.Parts.{fields_of}
 use Rattle.request_parts.proofs.runs_of_request.Goals as goal

@@ -1,5 +1,4 @@
 -- `request_reader::read_body` meets its contract: an arm is what its function ensures, and the rest is none of the methods. Assumes nothing.
-use borrow.Author.Rules.{rules}
 use Rattle.request_reader.specs.Answers.{answer_at}
 use Rattle.request_reader.proofs.Answered.{not_known}
 use Rattle.request_reader.proofs.read_body.Goals as goal

@@ -1,6 +1,5 @@
 -- `request_reader::read_read` meets its contract. Assumes nothing.
 use mathlib.Core.Path.{refl}
-use borrow.Author.Rules.{rules}
 use Rattle.method.specs.Methods.{of_request}
 use Rattle.layout.specs.Table.{plan}
 use Rattle.field_reader.specs.Cursors.{none, more}

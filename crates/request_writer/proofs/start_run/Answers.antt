@@ -1,6 +1,5 @@
 -- `request_writer::start_run` meets its contract. Assumes nothing.
 use native.Mathlib.Omega.{arith}
-use borrow.Author.Rules.{rules}
 use Rattle.field_writer.specs.Stored.{none, more}
 use Rattle.field_writer.proofs.Storing.{run-within}
 use Rattle.message_writer.proofs.Writers.{admitted-within}

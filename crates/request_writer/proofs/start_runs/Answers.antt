@@ -1,8 +1,7 @@
 -- `request_writer::start_runs` meets its contract. Assumes nothing.
-use mathlib.Core.Path.{ap₂, ◌∙◌}
 use mathlib.Core.Bool.{◌&&◌}
+use mathlib.Core.Path.{ap₂, ◌∙◌}
 use native.Mathlib.Omega.{arith}
-use borrow.Author.Rules.{rules}
 use Rattle.field_writer.specs.Stored.{none, more}
 use Rattle.field_writer.proofs.Storing.{run-within}
 use Rattle.message_writer.proofs.Writers.{admitted-within}

@@ -1,6 +1,5 @@
 -- `request_writer::write_fsync` meets its contract. Assumes nothing.
 use mathlib.Core.Path.{refl}
-use borrow.Author.Rules.{rules}
 use Rattle.number.specs.BigEndian.{bytes_of}
 use Rattle.method.specs.Methods.{of_request}
 use Rattle.layout.specs.Table.{plan}

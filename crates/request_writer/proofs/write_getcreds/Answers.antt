@@ -1,5 +1,4 @@
 -- `request_writer::write_getcreds` meets its contract. Assumes nothing.
-use borrow.Author.Rules.{rules}
 use Rattle.method.specs.Methods.{of_request}
 use Rattle.layout.specs.Table.{plan}
 use Rattle.layout.specs.Writing.{encode_message, write}

@@ -1,6 +1,5 @@
 -- `request_writer::write_statfs` meets its contract. Assumes nothing.
 use mathlib.Core.Path.{refl}
-use borrow.Author.Rules.{rules}
 use Rattle.method.specs.Methods.{of_request}
 use Rattle.layout.specs.Table.{plan}
 use Rattle.field_writer.specs.Stored.{done}

@@ -1,6 +1,5 @@
 -- `request_writer::write_unknown` meets its contract. Assumes nothing.
 use mathlib.Core.Path.{◌∙◌, sym, ap}
-use borrow.Author.Rules.{rules}
 use Rattle.method.specs.Methods.{found_method}
 use Rattle.message_writer.proofs.Writers.{headed}
 use Rattle.request_writer.proofs.Asked.{known-type, unknown-type}

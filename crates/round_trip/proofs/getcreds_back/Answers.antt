@@ -3,7 +3,6 @@ use Prim.Native.Nat.{ℕ}
 use mathlib.Core.Path.{◌≡◌, sym, subst}
 use lib.ListN.{take}
 use lib.Seq.{length-take-le}
-use borrow.Author.Rules.{rules}
 use Rattle.layout.specs.Table.{reply}
 use Rattle.layout.specs.Reading.{read}
 use Rattle.message_writer.proofs.Finished.{length-inside}

@@ -5,7 +5,6 @@ use lib.ListN.{take}
 use lib.Seq.{length-take-le}
 use mir.Syntax.{w32}
 use mir.ValLaws.{to_z-of_z}
-use borrow.Author.Rules.{rules}
 use Rattle.number.proofs.TwosComplement.{machine-fits}
 use Rattle.layout.specs.Table.{reply}
 use Rattle.layout.specs.Reading.{read}

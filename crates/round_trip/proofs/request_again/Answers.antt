@@ -1,7 +1,6 @@
 -- `round_trip::request_again` meets its contract: in each arm the answer is of a known variant. Assumes nothing.
 use mathlib.Core.Path.{sym, ap, ◌∙◌}
 use Prim.Native.Nat.{ℕ}
-use borrow.Author.Rules.{rules}
 use Rattle.layout.specs.Table.{request}
 use Rattle.request_reader.specs.Answers.{answer_of}
 use Rattle.round_trip.proofs.Trips.{accepted-again, refused-again}

@@ -1,6 +1,5 @@
 -- `structure_writer::put_statistics` meets its contract: the room of all members is tested before the first is stored. Assumes nothing.
-use mathlib.Core.Path.{refl, ◌∙◌}
-use borrow.Author.Rules.{rules}
+use mathlib.Core.Path.{refl}
 use Rattle.number.specs.BigEndian.{bytes_of}
 use Rattle.field_writer.specs.Stored.{none, more}
 use Rattle.field_writer.proofs.Storing.{whole-put}

@@ -1,5 +1,4 @@
 -- `text_claim::find_in_reply` meets its contract. Assumes nothing.
-use borrow.Author.Rules.{rules}
 use Rattle.layout.specs.Table.{reply}
 use Rattle.text_claim.proofs.Claims.{cut_fits, finds-text}
 use Rattle.text_claim.proofs.find_in_reply.Goals as goal

@@ -1,5 +1,4 @@
 -- `text_claim::find_in_request` meets its contract. Assumes nothing.
-use borrow.Author.Rules.{rules}
 use Rattle.layout.specs.Table.{request}
 use Rattle.text_claim.proofs.Claims.{cut_fits, finds-text}
 use Rattle.text_claim.proofs.find_in_request.Goals as goal

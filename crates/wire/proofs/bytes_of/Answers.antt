@@ -2,7 +2,6 @@
 use mathlib.Core.Path.{ap}
 use Prim.Native.Nat.{ℕ, ◌+◌}
 use native.Mathlib.Omega.{arith}
-use borrow.Author.Rules.{rules}
 use Rattle.wire.proofs.Runs.{no_bytes, all-bytes, no_place, its-place}
 use Rattle.wire.proofs.bytes_of.Goals as goal
 

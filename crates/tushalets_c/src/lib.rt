@@ -1,0 +1,11 @@
+// The static library for C, C++ and Rust: each exported function by its name in C, over the function of the exports that does the work and with
+// its clauses.
+#![tactic(auto)]
+
+mod front;
+mod listing;
+mod outstanding;
+mod reading;
+mod replies;
+mod requests;
+mod text;
