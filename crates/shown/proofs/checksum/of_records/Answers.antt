@@ -18,14 +18,14 @@ pub loop-i-preserved : goal.loop-i-preserved
 unfolding record_of
 loop-i-preserved c =
     let v = c in
-    let words = v.args.t1 in
-    let size : length words ≡ 64 = v.well-formed.0.1.0.1 in
+    let words = v.args.words in
+    let size : length words ≡ 64 = search rules in
     let inside = c.loop-i-test.true in
     rw (c.with_record-h.ensures, c.record_of.ensures, ← get_d_map record_of words v.loop-i.i 0) (element-turn record_bytes (records words) v.loop-i.i v.loop-i.h Free (omega (arith, inside, size, map-length record_of words)) ∙ v.loop-i.invariant)
 
 pub returns : goal.returns
 returns c =
     let v = c in
-    let words = v.args.t1 in
-    let size : length words ≡ 64 = v.well-formed.0.1.0.1 in
+    let words = v.args.words in
+    let size : length words ≡ 64 = search rules in
     elements-done record_bytes (records words) v.loop-i.i v.loop-i.h _ (omega (arith, c.loop-i-test.false, size, map-length record_of words)) v.loop-i.invariant

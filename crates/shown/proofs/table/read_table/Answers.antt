@@ -1,16 +1,11 @@
 -- `shown::table::read_table` meets its contract: the first i records are read, and the length stays. Assumes nothing.
-use Prim.Native.Nat.{ℕ, ◌*◌}
 use mathlib.Core.Path.{refl, ap, ◌∙◌}
-use mathlib.Core.List.{List}
 use native.Mathlib.Omega.{arith}
-use lib.ListN.{drop, length-set}
-use Rattle.outstanding_records.specs.declared.Record.{Record}
-use Rattle.shown.specs.Cases.{listed, record_in, record_size, table_in}
+use lib.ListN.{length-set}
+use Rattle.shown.specs.Cases.{listed, record_in, table_in}
 use Rattle.shown.proofs.Filling.{listed-turn, listed-done}
+use Rattle.shown.proofs.table.read_table.Invariants.{record-at}
 use Rattle.shown.proofs.table.read_table.Goals as goal
-
-abbrev record-at : List ℕ → ℕ → Record
-record-at l i = record_in (drop (i * record_size) l)
 
 pub loop-i-init : goal.loop-i-init
 unfolding listed
