@@ -23,6 +23,6 @@ returns c same sound =
     let id = ap (λ (k : TushaletsReading). k.id) r.tushalets_read_reply-reading.ensures in
     let first = one.tushalets_look-first_look.ensures ∙ ap (λ i. looked_of (look (records a.first.now) i)) id in
     let second = two.tushalets_look-second_look.ensures ∙ ap (λ i. looked_of (look (records a.second.now) i)) id in
-    three.tushalets_arrive-first.ensures.0
+    three.tushalets_arrive-first.ensures.value
     ∙ ap (λ (o : CallOutcome Arrival). reading_of (shown_of o.told)) (arrivals-alike (records a.first.now) (records a.second.now) x (sym first ∙ same ∙ second) (sym (ap (λ k. k.number) first) ∙ sound))
-    ∙ sym four.tushalets_arrive-second.ensures.0
+    ∙ sym four.tushalets_arrive-second.ensures.value

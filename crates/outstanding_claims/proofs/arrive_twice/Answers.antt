@@ -14,5 +14,5 @@ returns c answered =
     let a = one.args in
     let x = read reply a.message.now in
     let arrived = one.tushalets_arrive-first.ensures in
-    c.tushalets_arrive-second.ensures.0 ∙ ap (λ ws. reading_of (shown ws x)) arrived.1
-    ∙ ap reading_of (again-stray a.records.now x (λ e. answered (ap (λ (r : TushaletsReading). r.shape) arrived.0 ∙ e)))
+    c.tushalets_arrive-second.ensures.value ∙ ap (λ ws. reading_of (shown ws x)) arrived.records_after
+    ∙ ap reading_of (again-stray a.records.now x (λ e. answered (ap (λ (r : TushaletsReading). r.shape) arrived.value ∙ e)))

@@ -17,6 +17,6 @@ returns c same =
     let x = read reply a.one.now in
     let y = read reply a.other.now in
     let second = two.tushalets_arrive-b.ensures in
-    either a.first.now x y one.tushalets_arrive-a.ensures
-    (second.0 ∙ ap (λ ws. reading_of (shown ws y)) (sym same), second.1 ∙ ap (λ ws. left ws y) (sym same))
-    three.tushalets_arrive-b_behind.ensures four.tushalets_arrive-a_behind.ensures
+    either a.first.now x y (one.tushalets_arrive-a.ensures.value, one.tushalets_arrive-a.ensures.records_after)
+    (second.value ∙ ap (λ ws. reading_of (shown ws y)) (sym same), second.records_after ∙ ap (λ ws. left ws y) (sym same))
+    (three.tushalets_arrive-b_behind.ensures.value, three.tushalets_arrive-b_behind.ensures.records_after) (four.tushalets_arrive-a_behind.ensures.value, four.tushalets_arrive-a_behind.ensures.records_after)

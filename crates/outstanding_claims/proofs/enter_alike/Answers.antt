@@ -16,6 +16,6 @@ returns c same sound =
     let a = one.args in
     let first = one.tushalets_look-first_look.ensures in
     let second = two.tushalets_look-second_look.ensures in
-    three.tushalets_enter-first.ensures.0
+    three.tushalets_enter-first.ensures.value
     ∙ ap (λ (o : CallOutcome Told). number_of o.told) (entries-alike (records a.first.now) (records a.second.now) a.id a.type_number (sym first ∙ same ∙ second) (sym (ap (λ r. r.number) first) ∙ sound))
-    ∙ sym four.tushalets_enter-second.ensures.0
+    ∙ sym four.tushalets_enter-second.ensures.value

@@ -17,6 +17,6 @@ returns c answered absent fits =
     let a = one.args in
     let x = read reply a.message.now in
     let arrived = one.tushalets_arrive-reading.ensures in
-    let missing = sym (ap (λ ws. (looked_of (look (records ws) a.id)).held) arrived.1) ∙ sym (ap (λ r. r.held) seen.tushalets_look-look.ensures) ∙ absent in
-    c.tushalets_enter-entered.ensures.0 ∙ ap (λ ws. number_of (enter (records ws) a.id a.type_number).told) arrived.1
-    ∙ refilled a.records.now x a.id a.type_number (λ e. answered (ap (λ (r : TushaletsReading). r.shape) arrived.0 ∙ e)) missing fits
+    let missing = sym (ap (λ ws. (looked_of (look (records ws) a.id)).held) arrived.records_after) ∙ sym (ap (λ r. r.held) seen.tushalets_look-look.ensures) ∙ absent in
+    c.tushalets_enter-entered.ensures.value ∙ ap (λ ws. number_of (enter (records ws) a.id a.type_number).told) arrived.records_after
+    ∙ refilled a.records.now x a.id a.type_number (λ e. answered (ap (λ (r : TushaletsReading). r.shape) arrived.value ∙ e)) missing fits
