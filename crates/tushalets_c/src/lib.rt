@@ -2,10 +2,10 @@
 // its clauses.
 #![tactic(auto)]
 
-mod front;
+mod fronts;
 mod listing;
-mod outstanding;
 mod reading;
 mod replies;
 mod requests;
-mod text;
+mod table;
+mod text_check;
