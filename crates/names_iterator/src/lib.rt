@@ -66,8 +66,7 @@ impl<'a> Iter<'a> {
     }
 }
 
-// The covered door to `peek`: one step from a position that the caller keeps. The struct is made and opened here, so a caller of this holds none,
-// and the toolchain covers it.
+// `peek` for a caller that keeps the position: one step from there. The struct is made and opened here.
 pub fn step_from(reply: &[u8], position: Position) -> Step
     ensures { step_of result ≡ step_at reply.now (position_of position) }
 {

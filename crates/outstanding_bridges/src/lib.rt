@@ -1,5 +1,5 @@
-// Bridges to the table of outstanding requests, for covered code, which cannot hold a slice of records: it hands the 64 records in by value
-// and has them back as words, beside the answer. An array of an enum cannot stand in a struct that covered code opens; words can.
+// Bridges to the table of outstanding requests for a caller that holds the 64 records by value: it hands them in and has them back as words,
+// beside the answer.
 #![tactic(auto)]
 
 ghost use Rattle.std.specs.Prelude.{◌≡◌, map};

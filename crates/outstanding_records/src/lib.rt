@@ -1,5 +1,5 @@
 // The records of the table of outstanding requests, as a service lends them: one is stored, all are freed, all are copied. Nothing is
-// decided here. Covered code cannot hold a slice of records, so each function over one is proved by a walk of its code, by hand.
+// decided here.
 #![tactic(auto)]
 
 ghost use Rattle.std.specs.Prelude.{◌≡◌, length, set, replicate};

@@ -1,6 +1,5 @@
 // The table of outstanding requests, in records that a service lends: emptied, entered into, given an arriving reply, looked into.
-// Covered code cannot hold a slice of records, so each function is proved by a walk of its code, by hand. It copies the records, has the
-// call decided on the copy, and stores one record.
+// Each function copies the records, has the call decided on the copy, and stores one record.
 #![tactic(auto)]
 
 ghost use Rattle.std.specs.Prelude.{◌≡◌};
