@@ -17,7 +17,7 @@ use message_writer::Written;
 use method::Method;
 
 // A success. `run` is its text or data. The names of a readdir reply are `run`, one behind the other, and `lengths`; every other
-// reply leaves `lengths` aside. A getcreds reply has no result and leaves `result` aside.
+// reply leaves `lengths` aside. A getcreds reply has no result and leaves `res` aside.
 pub fn tushalets_write_reply(
     id: u32,
     type_number: u8,

@@ -11,7 +11,7 @@ ghost use Rattle.exports.specs.Shown.{written_of};
 use exports::TushaletsWritten;
 
 // A success. `run` is its text or data. The names of a readdir reply are `run`, one behind the other, and `lengths`; every other
-// reply leaves `lengths` aside. A getcreds reply has no result and leaves `result` aside.
+// reply leaves `lengths` aside. A getcreds reply has no result and leaves `res` aside.
 #[unsafe(no_mangle)]
 pub extern "C" fn tushalets_write_reply(
     id: u32,
