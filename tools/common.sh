@@ -1,12 +1,14 @@
 # shellcheck shell=bash
 # Sourced by every script that builds. The script has set `tool`, its name in messages, and -euo pipefail.
 #
-# `rt` keeps its state in target/, and two of them at once spoil it: one caller builds at a time. Beside a file that was built stands what it was
-# made of, as a sum of the crates' files. Where these are still the same, it is taken as it stands, and `rt` is not needed.
+# `rt` keeps its state in each crate's out/, and the tools keep what they build in target/. One caller builds at a time, so that the others take what
+# it has built. Beside a file that was built stands what it was made of, as a sum of the crates' files. Where these are still the same, it is taken
+# as it stands, and `rt` is not needed.
 
 root=$(cd "$(dirname "$(readlink -f "${BASH_SOURCE[0]}")")/.." && pwd)
 built=$root/target/tools
 library=$root/target/staticlib/libtushalets.a
+exports=tushalets_c # the crate that is the library
 
 fail() {
     printf '%s: %s\n' "${tool:?}" "$1" >&2
@@ -50,9 +52,9 @@ unlock() {
     exec 9<&-
 }
 
-# A sum of all files that a build depends on.
+# A sum of all files that a build depends on; not of what `rt` leaves in out/.
 sum_of_crates() {
-    (cd "$root" && find crates.txt crates -name must-fail -prune -o -type f -print0 | sort -z | xargs -0 sha256sum | sha256sum)
+    (cd "$root" && find crates.txt crates -type d \( -name must-fail -o -name out \) -prune -o -type f -print0 | sort -z | xargs -0 sha256sum | sha256sum)
 }
 
 is_current() {
@@ -79,14 +81,16 @@ stop_rt() {
     exit "$1"
 }
 
-# Of what `rt` prints, a line for each crate that it has proved.
+# Of what `rt` prints, a line for each crate that it has proved. The verdict is the line behind the one that names the crate.
 show_proved() {
-    sed -nu -e "s|^rt: \([a-z0-9_]* proved ([0-9]* s)\)\$|$tool: \1|p" -e "s|^rt: target/staticlib/lib\([a-z0-9_]*\)\.a has .*|$tool: \1 proved|p"
+    sed -nu -e '/^crate \([a-z0-9_]*\): modules .*/{s//\1/;h;}' -e "/^logic=proved /{x;s/.*/$tool: & proved/p}"
 }
 
-# Runs `rt` in the checkout, in a process group of its own, and shows a line for each crate as it is proved. All that it prints is in `log`.
+# run_rt FOLDER COMMAND..: runs `rt` in this folder of the checkout, in a process group of its own, and shows a line for each crate as it is proved.
+# All that it prints is in `log`.
 run_rt() {
-    local status=0
+    local status=0 folder=$root/$1
+    shift
     log=$built/rt.log
     trap 'stop_rt 129' HUP
     trap 'stop_rt 130' INT
@@ -95,7 +99,7 @@ run_rt() {
     (
         set +m
         trap - HUP INT TERM
-        cd "$root" || exit
+        cd "$folder" || exit
         rt "$@" < /dev/null 2>&1 | tee "$log" | show_proved >&2
     ) &
     set +m
@@ -104,11 +108,12 @@ run_rt() {
     return "$status"
 }
 
-# The same, where nothing else makes sense if it fails.
+# The same, where nothing else makes sense if it fails. The first errors are shown too, since the last lines can be those of other crates.
 build() {
     run_rt "$@" || {
+        { tail -n +21 <(tac "$log") | tac | grep -m 10 ': error' || true; } >&2
         tail -n 20 "$log" >&2
-        fail "rt $* failed"
+        fail "rt ${*:2} failed in $1"
     }
 }
 
@@ -126,57 +131,27 @@ build_program() {
     lock
     if ! is_current "$program"; then
         begin_build
-        echo "$tool: proving and building the program $1; from nothing this takes about two and a half minutes" >&2
-        build check "$1"
-        cp "$root/target/bin/$1" "$program.new"
+        echo "$tool: proving and building the program $1; from nothing this takes some minutes" >&2
+        build "crates/$1" run
+        cp "$root/crates/$1/out/$1" "$program.new"
         keep "$program.new" "$program"
     fi
     unlock
 }
 
-# Proves the exported crates and joins their archives into `library`, for Rust, C and C++ to link.
+# Proves the exported functions and builds `library`, for Rust, C and C++ to link.
 build_library() {
-    local exported below name
     is_current "$library" && return
     lock
     if ! is_current "$library"; then
         begin_build
-        echo "$tool: proving and building the library; from nothing this takes about five minutes" >&2
-        mapfile -t exported < <(cd "$root" && grep -rlF '#[no_mangle]' crates/*/src | cut -d / -f 2 | sort -u)
-        # The crates below them by `rt check`, which proves several at a time.
-        mapfile -t below < <(leaned_on "${exported[@]}")
-        [ "${#below[@]}" -eq 0 ] || build check "${below[@]}"
-        for name in "${exported[@]}"; do
-            build staticlib "$name"
-        done
-        join "$built/library.new" "${exported[@]}"
+        echo "$tool: proving and building the library; from nothing this takes some minutes" >&2
+        build "crates/$exports" lib
+        mkdir -p "${library%/*}"
+        cp "$root/crates/$exports/out/lib$exports.a" "$built/library.new"
         keep "$built/library.new" "$library"
     fi
     unlock
-}
-
-# The crates of the checkout that these lean on.
-leaned_on() {
-    local name
-    for name in "$@"; do
-        sed -n "s/^$name: *//p" "$root/crates.txt"
-    done | tr ' ' '\n' | sort -u | while read -r name; do
-        [ ! -d "$root/crates/$name/src" ] || echo "$name"
-    done
-}
-
-# join ARCHIVE CRATE..: each crate's archive has one object, which holds the functions that the crate exports and keeps all else to itself.
-join() {
-    local joined=$1 folder=$built/objects objects name
-    shift
-    rm -rf "$folder" "$joined"
-    mkdir "$folder"
-    for name in "$@"; do
-        (cd "$folder" && ar x "${library%/*}/lib$name.a")
-    done
-    objects=("$folder"/*.o)
-    [ "${#objects[@]}" -eq $# ] || fail "${#objects[@]} objects of $# crates"
-    ar rcsD "$joined" "${objects[@]}"
 }
 
 # The library for what is linked next: of the folder that TUSHALETS_LIB_DIR names, or of this checkout, built where it has changed.
