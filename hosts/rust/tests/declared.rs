@@ -14,7 +14,7 @@ type Tokens = Vec<String>;
 const VERSION: &str = "version";
 
 // What stands before the name of an exported function.
-const RATTLE_FUNCTION: &str = "# [ no_mangle ] pub extern \" C \" fn";
+const RATTLE_FUNCTION: &str = "# [ unsafe ( no_mangle ) ] pub extern \" C \" fn";
 const RUST_FUNCTION: &str = "fn";
 
 fn declare(found: &mut Declarations, name: String, what: Vec<String>) {
@@ -92,9 +92,14 @@ fn rust_type(tokens: &[String]) -> String {
     tokens.iter().map(|token| token.trim_start_matches("Tushalets")).collect::<Vec<_>>().join(" ")
 }
 
-/// A slice is a pointer and a length; a reference to an array is a pointer.
+/// A slice is a pointer and a length; a reference to an array is a pointer. `result` is a word of contracts in Rattle, which
+/// has `res`.
 fn rust_parameter(parameter: &[String]) -> Vec<String> {
-    let (name, of) = (&parameter[0], &parameter[2..]);
+    let name = match parameter[0].as_str() {
+        "res" => "result",
+        name => name,
+    };
+    let of = &parameter[2..];
     let (pointer, of) = match of {
         _ if starts(of, "& mut") => ("* mut", &of[2..]),
         _ if starts(of, "&") => ("* const", &of[1..]),
@@ -265,13 +270,22 @@ fn text(path: &Path) -> String {
     fs::read_to_string(path).unwrap_or_else(|error| panic!("{}: {error}", path.display()))
 }
 
-/// All crates of the exports, however many there are.
+fn files_in(folder: &Path) -> Vec<PathBuf> {
+    let files = fs::read_dir(folder).unwrap_or_else(|error| panic!("{}: {error}", folder.display()));
+    let mut files: Vec<PathBuf> = files.map(|file| file.expect("a file").path()).collect();
+    files.sort();
+    files
+}
+
+/// All files of the static library, which has the functions, and of the crates of the exports, which have the structs,
+/// however many there are.
 fn rattle() -> Tokens {
-    let folders = fs::read_dir(crate_file("../../crates")).expect("the folder of the Rattle crates");
-    let folders = folders.map(|folder| folder.expect("a crate").path());
-    let is_export =
-        |folder: &PathBuf| folder.file_name().is_some_and(|name| name.to_string_lossy().starts_with("exports"));
-    folders.filter(is_export).flat_map(|folder| tokens(&text(&folder.join("src/lib.rt")))).collect()
+    let is_export = |folder: &PathBuf| {
+        let name = folder.file_name().unwrap_or_default().to_string_lossy();
+        name == "tushalets_c" || name.starts_with("exports")
+    };
+    let folders = files_in(&crate_file("../../crates")).into_iter().filter(is_export);
+    folders.flat_map(|folder| files_in(&folder.join("src"))).flat_map(|file| tokens(&text(&file))).collect()
 }
 
 fn c() -> Tokens {
@@ -339,15 +353,39 @@ fn wrong_rattle_is_seen() {
     let alterations = [
         ("struct Reading", "pub shape : u32 , pub number : u32", "pub number : u32 , pub shape : u32"),
         ("struct Reading", "fields : [ u64 ; 17 ] , }", "fields : [ u64 ; 16 ] , }"),
-        ("struct Name", "# [ repr ( C ) ] pub struct TushaletsName", "pub struct TushaletsName"),
+        (
+            "struct Name",
+            "# [ repr ( C ) ] # [ derive ( Drop ) ] pub struct TushaletsName",
+            "# [ derive ( Drop ) ] pub struct TushaletsName",
+        ),
         ("struct Fronted", "pub act : u32 ,", ""),
-        ("tushalets_front", "# [ no_mangle ] pub extern \" C \" fn tushalets_front", "pub fn tushalets_front"),
-        ("tushalets_next_name", "at : usize , left : u32 ) - >", "left : u32 , at : usize ) - >"),
-        ("tushalets_list_request", "tushalets_list_request ( message : & [ u8 ] ,", "tushalets_list_request ("),
-        ("tushalets_version", "tushalets_version ( ) - > u32", "tushalets_version ( ) - > u64"),
+        (
+            "tushalets_front",
+            "# [ unsafe ( no_mangle ) ] pub extern \" C \" fn tushalets_front",
+            "pub fn tushalets_front",
+        ),
+        (
+            "tushalets_next_name",
+            "\" C \" fn tushalets_next_name ( message : & [ u8 ] , at : usize , left : u32 )",
+            "\" C \" fn tushalets_next_name ( message : & [ u8 ] , left : u32 , at : usize )",
+        ),
+        (
+            "tushalets_list_request",
+            "\" C \" fn tushalets_list_request ( message : & [ u8 ] ,",
+            "\" C \" fn tushalets_list_request (",
+        ),
+        ("tushalets_version", "\" C \" fn tushalets_version ( ) - > u32", "\" C \" fn tushalets_version ( ) - > u64"),
         ("struct Looked", "pub held : u32 ,", "pub held : usize ,"),
-        ("tushalets_empty", "tushalets_empty ( records : & mut [ u64 ]", "tushalets_empty ( records : & [ u64 ]"),
-        ("tushalets_look", "tushalets_look ( records : & [ u64 ]", "tushalets_look ( records : & [ u32 ]"),
+        (
+            "tushalets_empty",
+            "\" C \" fn tushalets_empty ( records : & mut [ u64 ]",
+            "\" C \" fn tushalets_empty ( records : & [ u64 ]",
+        ),
+        (
+            "tushalets_look",
+            "\" C \" fn tushalets_look ( records : & [ u64 ]",
+            "\" C \" fn tushalets_look ( records : & [ u32 ]",
+        ),
         (VERSION, "VERSION : u32 =", "VERSION : u32 = 9"),
     ];
     all_are_seen(&rattle(), |tokens| declared_in_rust(tokens, RATTLE_FUNCTION), &alterations);

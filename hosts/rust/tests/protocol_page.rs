@@ -102,12 +102,12 @@ fn methods_defined(clauses: &Clauses) -> Rows {
     let mut rows = Rows::new();
     let methods = clauses.right("methods").iter().filter(|word| *word != "∷" && *word != "[]");
     for (place, method) in methods.enumerate() {
-        let number = clauses.number(&format!("requestNumber {method}"));
-        let name = clauses.right(&format!("nameOf {method}"))[0].trim_matches('"');
+        let number = clauses.number(&format!("request_number {method}"));
+        let name = clauses.right(&format!("name_of {method}"))[0].trim_matches('"');
         let row = clauses.right(&format!("row {method}"));
         let at = row.iter().position(|word| word == "gets").expect("a request gets a reply");
         let (request, reply) = (clauses.shown_fields(&row[..at]), clauses.shown_fields(&row[at + 2..]));
-        let reply_number = number + clauses.number("replyOffset");
+        let reply_number = number + clauses.number("reply_offset");
         let types = format!("{number:#04x} {reply_number:#04x}");
         add(&mut rows, name.to_string(), format!("{place}: {types} request{request}, {}{reply}", row[at + 1]));
     }
@@ -338,7 +338,7 @@ fn a_changed_definition_is_seen() {
         (&["write"], "row Write = path ∷ \"data\" is bytes", "row Write = \"data\" is bytes ∷ path"),
         (&["mknod"], "\"dev\" is num u64", "\"dev\" is num u32"),
         (&["link", "rename"], "\"new_path\"", "\"to_path\""),
-        (&["chmod"], "requestNumber Chmod = 0x07", "requestNumber Chmod = 0x27"),
+        (&["chmod"], "request_number Chmod = 0x07", "request_number Chmod = 0x27"),
         (&["statistics ffree", "statistics free"], "\"ffree\"", "\"free\""),
         (&["entry 7"], "0xf1 to 0xf3", "0xf1 to 0xf4"),
         (&["statfs"], "gets result statistics", "gets counted statistics"),

@@ -72,7 +72,7 @@ fn a_wrong_row_is_seen() {
         ("| `Refusal::TRUNCATED` |", "| `Refusal::MALFORMED_TEXT` |", 4),
         ("| `TUSHALETS_RESULT_SIGN`", "| `TUSHALETS_OVERSIZE`", 8),
         ("| `TABLE_FULL` |", "| `ID_OUTSTANDING` |", 11),
-        ("| 20 | `unsoundTable`", "| 19 | `unsoundTable`", 19),
+        ("| 20 | `unsound_table`", "| 19 | `unsound_table`", 19),
     ] {
         assert_eq!(PAGE.matches(from).count(), 1, "{from}");
         assert_eq!(faults(&PAGE.replace(from, to)), [number], "{from}");
