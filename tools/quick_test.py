@@ -108,16 +108,16 @@ class Names(InTree):
         super().setUp()
         self.enter(mock.patch.object(quick, "FROM_OUTSIDE", {}))
         self.write("crates/a/src/lib.rt", "pub fn read_one() {}\nconst LIMIT: u8 = 1;\n")
-        self.write("crates/a/specs/Table.antt", "row-of m′ = a·b\n")
+        self.write("crates/a/specs/Table.antt", "row-of m′ = a-b\n")
 
     def finds(self, text, *faults, name="README.md"):
         self.write(name, text)
         self.assertEqual(quick.names(self.root)[0], [f"{name}:{fault}" for fault in faults])
 
     def test_words(self):
-        self.finds("`a::read_one(m′)`, `row-of`, `a·b`, `lib` and gone_one\n")
-        self.finds("x\n\n`read_two` and `a::row-off\n(a·c)`\n", "3: `read_two` stands nowhere in the tree",
-                   "3: `row-off` stands nowhere in the tree", "3: `a·c` stands nowhere in the tree")
+        self.finds("`a::read_one(m′)`, `row-of`, `a-b`, `lib`, `Table.row-of` and gone_one\n")
+        self.finds("x\n\n`read_two` and `a::row-off\n(a-c.lib)`\n", "3: `read_two` stands nowhere in the tree",
+                   "3: `row-off` stands nowhere in the tree", "3: `a-c` stands nowhere in the tree")
 
     def test_block(self):
         self.finds("```sh\npub read_one # a comment\n```\n")
@@ -134,9 +134,11 @@ class Names(InTree):
         self.finds("`built` `written`\n", "1: `built` stands nowhere in the tree", "1: `written` stands nowhere in the tree")
 
     def test_paths(self):
-        self.write(".gitignore", "/target/\n")
-        self.finds("`crates/a/src/lib.rt` `a/specs/` `specs/Table.antt` `a/Table` `crates/*/src` `…/crates/a` `src/FILE` `target/a`\n")
+        self.write(".gitignore", "/target/\n/crates/*/out/\n")
+        self.finds("`crates/a/src/lib.rt` `a/specs/` `specs/Table.antt` `a/Table` `crates/*/src` `…/crates/a` `src/FILE`\n")
+        self.finds("`target/a` `target/` `crates/a/out/lib.a` `crates/*/out/` `out/a`\n")
         self.finds("`crates/a/lib.rt` `cc -Ia/src -Ib/src`\n", "1: there is no crates/a/lib.rt", "1: there is no b/src")
+        self.finds("`a/target/lib` `src/out/a`\n", "1: there is no a/target/lib", "1: there is no src/out/a")
 
     def test_links(self):
         self.write("docs/B.md", "[up](../README.md)\n")
@@ -152,7 +154,7 @@ class Names(InTree):
         self.assertEqual(self.faults(quick.names), ["the exception `read_one` is not needed"])
 
 
-CONTRACT = "    ensures { λ r. ⌜ r ≡ f {x} ⌝ }\n"
+CONTRACT = "    ensures { result ≡ f x }\n"
 
 
 class Promises(InTree):
@@ -162,13 +164,14 @@ class Promises(InTree):
 
     def test_good(self):
         self.finds(f"pub fn f(x: u8) -> u8\n{CONTRACT}{{\n    x\n}}\n")
-        self.finds(f"pub fn f(\n    x: &[u8; 4],\n) -> u8\n    ensures named {{ λ r. ⌜ r ⌝ }}\n{CONTRACT}{{\n    x\n}}\n")
+        self.finds(f"pub fn f(\n    x: &[u8; 4],\n) -> u8\n    ensures named {{ f record {{ a = x }} }}\n{CONTRACT}{{\n    x\n}}\n")
+        self.finds(f'#[unsafe(no_mangle)]\npub extern "C" fn f(x: &[u8]) -> u8\n{CONTRACT}{{\n    x[0]\n}}\n')
 
     def test_what_is_not_public(self):
         self.finds("fn f() {}\npub(crate) fn g() {}\n// pub fn h() {}\npub struct S {\n    pub x: u8,\n}\n")
 
     def test_requires(self):
-        asks = "    requires { ⌜ x ⌝ }\n"
+        asks = "    requires { x ≤ 1 }\n"
         self.finds(f"\npub fn f(x: u8)\n{asks}{CONTRACT}{{\n}}\n", "2: a::f has a `requires`")
         self.finds(f"pub fn f(x: u8)\n{CONTRACT}{asks}{{\n}}\n", "1: a::f has a `requires`")
         self.finds(f"pub fn f(x: u8)\n{CONTRACT}{{\n}}\nfn g(x: u8)\n{asks}{{\n}}\n")
@@ -177,7 +180,7 @@ class Promises(InTree):
     def test_no_ensures(self):
         self.finds(f"pub fn f() -> S {{\n    S {{}}\n}}\n\npub fn g()\n{CONTRACT}{{}}\n", "1: a::f has no `ensures`")
         self.finds("impl S {\n    // ensures { x }\n    pub fn f(self) {\n    }\n}\n", "3: a::f has no `ensures`")
-        self.finds('#[no_mangle]\npub extern "C" fn f() {\n}\n', "2: a::f has no `ensures`")
+        self.finds('#[unsafe(no_mangle)]\npub extern "C" fn f() {\n}\n', "2: a::f has no `ensures`")
 
     def test_other_files(self):
         self.write("crates/a/src/b/c.rt", "pub fn f() {}\n")
@@ -187,9 +190,8 @@ class Promises(InTree):
 class Crates(InTree):
     def setUp(self):
         super().setUp()
-        self.enter(mock.patch.object(quick, "REACHED", {"c": {"a"}}))
-        self.lines = ["# lowest first", "a:", "b: a", "c: a b io"]
-        self.sources = {"a/src/lib.rt": "pub fn f() {}\n", "b/proofs/P.antt": "use Rattle·a.specs.S\nuse Rattle·b·proofs.proofs.Q\n",
+        self.lines = ["# lowest first", "a:", "b: a", "c staticlib: b io"]
+        self.sources = {"a/src/lib.rt": "pub fn f() {}\n", "b/proofs/P.antt": "use Rattle.a.specs.S\nuse Rattle.b.proofs.Q\n",
                         "c/src/lib.rt": "use b::F;\n// a::f\nfn g() {\n    x::y(io::z())\n}\n"}
 
     def finds(self, *faults):
@@ -204,19 +206,20 @@ class Crates(InTree):
     def test_not_listed(self):
         self.lines[2] = "b:"
         self.finds(":3: b names a and does not list it")
+        self.lines[2] = "b: a"
+        self.sources["c/src/lib.rt"] += "ghost use Rattle.a.specs.S;\n"
+        self.finds(":4: c names a and does not list it")
 
     def test_not_named(self):
-        self.sources["b/proofs/P.antt"] = "-- Rattle·a\n"
+        self.sources["b/proofs/P.antt"] = "-- Rattle.a\n"
         self.finds(":3: b lists a and does not name it")
+        self.sources["b/proofs/P.antt"] = "use Rattle.a.specs.S\n"
+        self.lines[3] = "c staticlib: a b io"
+        self.finds(":4: c lists a and does not name it")
 
-    def test_exception_not_needed(self):
-        self.sources["c/src/lib.rt"] += "ghost use Rattle·a.specs.S;\n"
-        self.finds(":4: c: the exception a is not needed")
-        self.sources["c/src/lib.rt"] = "use b::F;\nuse io::z;\n"
-        self.lines[3] = "c: b io"
-        self.finds(":4: c: the exception a is not needed")
-        del self.lines[3]
-        self.finds(": no line for c")
+    def test_what_rt_left_does_not_count(self):
+        self.sources["b/out/incremental/P.antt"] = "use Rattle.c.specs.S\n"
+        self.finds()
 
     def test_order(self):
         self.lines[1:3] = reversed(self.lines[1:3])
@@ -242,21 +245,20 @@ class Quotes(InTree):
 
 class Commands(InTree):
     def test_passes(self):
-        self.program("rt", '[ "$*" = "fmt --check" ] && echo noise')
         self.program("cargo", "echo 'test result: ok. 3 passed; 0 failed'; echo 'test result: ok. 4 passed; 0 failed'")
-        self.write("crates/a/src/lib.rt", "")
-        self.assertEqual(self.run_main("--only", "second,layout"),
-                         (0, "quick: layout: ok (1 files)\nquick: second: ok (7 tests)\nquick: all well\n"))
+        self.assertEqual(self.run_main("--only", "second,edits"),
+                         (0, "quick: edits: ok (0 edits)\nquick: second: ok (7 tests)\nquick: all well\n"))
 
     def test_fails(self):
-        self.program("rt", "seq 30; exit 3")
-        status, output = self.run_main("--only", "layout")
+        self.program("cargo", "seq 30; exit 3")
+        status, output = self.run_main("--only", "second")
         tail = "".join(f"{n}\n" for n in range(11, 31))
-        self.assertEqual((status, output), (1, f"quick: layout: `rt fmt --check` ended with 3:\n{tail}quick: 1 faults\n"))
+        command = "cargo test --offline --quiet --manifest-path second/Cargo.toml"
+        self.assertEqual((status, output), (1, f"quick: second: `{command}` ended with 3:\n{tail}quick: 1 faults\n"))
 
     def test_is_missing(self):
         with mock.patch.dict(os.environ, PATH=str(self.programs)):
-            self.assertEqual(self.run_main("--only", "layout"), (1, "quick: layout: rt is not on the path\nquick: 1 faults\n"))
+            self.assertEqual(self.run_main("--only", "second"), (1, "quick: second: cargo is not on the path\nquick: 1 faults\n"))
 
 
 class Check(InTree):
@@ -315,6 +317,10 @@ class Check(InTree):
         self.write_list()
         self.write("crates/d/src/lib.rt", "two\n")
         self.proves("d", "e")
+        self.commit()
+        self.lines[3:] = ["c staticlib: b a io", "e: d"]
+        self.write_list()
+        self.proves("c", "none")
 
     def test_not_listed(self):
         self.write("crates/f/src/lib.rt", "one\n")
@@ -347,11 +353,8 @@ class Whole(InTree):
         self.write("tools/quick", "")
         shutil.copy(SCRIPT, self.root / "tools/quick")
         self.write("README.md", "".join(f"`{word}`\n" for word in quick.FROM_OUTSIDE))
-        below = {name for names in quick.REACHED.values() for name in names}
-        lines = [f"{name}:" for name in below] + [f"{name}: {' '.join(names)}" for name, names in quick.REACHED.items()]
-        self.write("crates.txt", "\n".join(lines) + "\n")
-        for name in "rt", "cargo":
-            self.program(name, "exit 0")
+        self.write("crates.txt", "")
+        self.program("cargo", "exit 0")
 
     def call(self, *arguments):
         """Calls the script through a symbolic link, from another folder."""
@@ -369,7 +372,7 @@ class Whole(InTree):
 
     def test_all_parts_run(self):
         self.write("crates/a/must-fail/e.edit", "")
-        self.program("rt", "exit 1")
+        self.write("crates/a/src/lib.rt", "pub fn f() {}\n")
         status, lines = self.call()
         self.assertEqual((status, lines[0], lines[-1]), (1, "crates/a/must-fail/e.edit:1: no pair of `old:` and `new:`", "quick: 2 faults"))
         self.assertIn("quick: second: ok (0 tests)", lines)
