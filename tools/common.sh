@@ -81,9 +81,9 @@ stop_rt() {
     exit "$1"
 }
 
-# Of what `rt` prints, a line for each crate that it has proved. The verdict is the line behind the one that names the crate.
+# Of what `rt` prints, a line for each crate that it has proved. The verdict stands behind the line that names the crate.
 show_proved() {
-    sed -nu -e '/^crate \([a-z0-9_]*\): modules .*/{s//\1/;h;}' -e "/^logic=proved /{x;s/.*/$tool: & proved/p}"
+    sed -nu -e '/^crate \([a-z0-9_]*\): modules .*/{s//\1/;h;}' -e "/^logic=proved /{x;s|.*|$tool: & proved|p}"
 }
 
 # run_rt FOLDER COMMAND..: runs `rt` in this folder of the checkout, in a process group of its own, and shows a line for each crate as it is proved.

@@ -2,7 +2,7 @@
 //!
 //! The typed functions of the crate are made of these, and most programs need only those. These are for a program that
 //! keeps numbers, or that writes text it has as bytes. Every function takes every input. What each promises is stated
-//! and proved in the Rattle sources, `crates/exports*`. Which cells of a [`Reading`] show which field of a message is
+//! and proved in the Rattle sources, `crates/tushalets_c`. Which cells of a [`Reading`] show which field of a message is
 //! in the table of cells in `hosts/c/tushalets.h`; how a word holds a record of a table of outstanding requests is
 //! there too. As everywhere in the crate, [`check_version`](crate::check_version) comes before any other call.
 //!
