@@ -20,7 +20,8 @@ use wire::{Cursor, FIRST_NAME, Refusal, Run};
 pub fn write_readdir(id: u32, res: i32, names: &[u8], lengths: &[u32], out: &mut [u8]) -> Written
     ensures { Writes (write_names id res lengths.now names.now) out.entry out.exit result }
 {
-    if res < 0 {
+    let negative = res < 0;
+    if negative {
         return Written::Refused {
             number: Refusal::RESULT_SIGN,
             place: 0,

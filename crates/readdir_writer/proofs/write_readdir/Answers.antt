@@ -12,19 +12,19 @@ use borrow.Author.Tests.{eqb-true}
 use Rattle.layout.specs.Writing.{sum, write_names}
 use Rattle.readdir_writer.proofs.Readdirs.{sign-refused, sum-refused, checks-right}
 use Rattle.readdir_writer.proofs.write_readdir.Goals as goal
-use Rattle.readdir_writer.proofs.write_readdir.Goals.{Else-res-lt0, Then-sums_to}
+use Rattle.readdir_writer.proofs.write_readdir.Goals.{Else-negative, Then-sums_to}
 
-not_negative : (c : Else-res-lt0) → lt_z c.args.res (pos 0) ≡ false
-not_negative c = rw (to_z-of_z w32 c.args.res (search rules)) at c.if-res-lt0.false
+not_negative : (c : Else-negative) → lt_z c.args.res (pos 0) ≡ false
+not_negative c = rw (to_z-of_z w32 c.args.res (search rules)) at c.if-negative.false
 
 summed : (c : Then-sums_to) → let a = c.args in eqb (sum a.lengths.now) (length a.names.now) ≡ true
 summed c = sym c.sums_to.ensures ∙ c.if-sums_to.true
 
-pub returns-then-res-lt0 : goal.returns-then-res-lt0
+pub returns-then-negative : goal.returns-then-negative
 unfolding write_names
-returns-then-res-lt0 c =
+returns-then-negative c =
     let s = c in
-    sign-refused _ _ _ _ _ (rw (to_z-of_z w32 s.args.res (search rules)) at c.if-res-lt0.true)
+    sign-refused _ _ _ _ _ (rw (to_z-of_z w32 s.args.res (search rules)) at c.if-negative.true)
 
 pub write_summed-requires : goal.write_summed-requires
 write_summed-requires c = eqb-true _ _ (summed (goal.at.write_summed-requires c).Then-sums_to)
@@ -35,8 +35,8 @@ returns-then-sums_to c =
     let call = c in
     let then = (goal.at.returns-then-sums_to c).Then-sums_to in
     let s = then in
-    checks-right _ _ _ _ (not_negative (goal.at.returns-then-sums_to c).Else-res-lt0) (summed then) (rw (← (to_z-of_z w32 s.args.res (search rules))) call.write_summed.ensures)
+    checks-right _ _ _ _ (not_negative (goal.at.returns-then-sums_to c).Else-negative) (summed then) (rw (← (to_z-of_z w32 s.args.res (search rules))) call.write_summed.ensures)
 
 pub returns : goal.returns
 unfolding write_names
-returns c = sum-refused _ _ _ _ (not_negative (goal.at.returns c).Else-res-lt0) (sym c.sums_to.ensures ∙ c.if-sums_to.false)
+returns c = sum-refused _ _ _ _ (not_negative (goal.at.returns c).Else-negative) (sym c.sums_to.ensures ∙ c.if-sums_to.false)
