@@ -94,6 +94,7 @@ class Edits(InTree):
     def test_file(self):
         self.finds("file: src/b.rt\nold: x\nnew: y\n", "1: there is no src/b.rt", "2: the text stands 0 times in src/b.rt")
         self.finds("file: proofs/P.antt\nold: one\nnew: two\n", "1: proofs/P.antt is not under src/ or specs/")
+        self.finds("file: src/lib.rt\nold: x = 1\nnew: x = 2\nfile: proofs/P.antt\nold: one\nnew: two\n")
 
     def test_pairs(self):
         self.finds("file: src/lib.rt\nold: x\nnew: x\n", "3: `new:` is the same as `old:`")
