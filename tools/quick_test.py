@@ -149,6 +149,11 @@ class Names(InTree):
     def test_what_tells_of_the_past(self):
         self.finds("`gone`\n\n[a](docs/A.md)\n", "3: the link to docs/A.md leads to no file", name="CHANGELOG.md")
 
+    def test_pages_that_name_old_things(self):
+        self.finds("`gone`\n", name="docs/PORT.md")
+        self.finds("`gone`\n", name="docs/DESIGN-PASS.md")
+        self.finds("`gone`\n", "1: `gone` stands nowhere in the tree", name="docs/PORTS.md")
+
     def test_exceptions(self):
         self.enter(mock.patch.object(quick, "FROM_OUTSIDE", {"elsewhere": "", "read_one": ""}))
         self.write("README.md", "`elsewhere` `read_one`\n")
