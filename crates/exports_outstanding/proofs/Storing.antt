@@ -12,17 +12,19 @@ use Rattle.outstanding_records.specs.declared.Record.{Record}
 use Rattle.outstanding_records.specs.declared.Record.TheVariants.{Free, Held}
 use Rattle.outstanding.specs.Records.{is_free, holds_id}
 use Rattle.outstanding.specs.Calls.{Change, kept, entered, removed, CallOutcome, Arrival, arrive}
-use Rattle.outstanding.proofs.Lists.{replace-set, first-map, map-length}
+use Rattle.std.proofs.lemmas.List.{length-map}
+use Rattle.outstanding.proofs.Lists.{replace-set, first-map}
 use Rattle.outstanding.proofs.Views.{Arriving, stopped, passed, arriving}
 use Rattle.outstanding_decisions.specs.Decisions.{place, stored, Decided}
-use Rattle.outstanding_words.specs.Words.{word_of, record_of, records, after_words}
+use Rattle.outstanding_records.specs.Words.{word_of, record_of, records}
+use Rattle.outstanding_words.specs.Words.{after_words}
 use Rattle.exports_reading.specs.Typed.{typed}
 use Rattle.exports_reading.proofs.Typed.{same-type}
 use Rattle.exports_outstanding.specs.Shown.{shown_of}
 
 module _ (ws : List ℕ) where
   by : (c : Change) → set ws (place c (records ws)) (word_of (stored c)) ≡ after_words c ws
-  by kept = rw (map-length record_of ws) (set_out ws (length ws) (word_of Free) (omega arith))
+  by kept = rw (length-map ws record_of) (set_out ws (length ws) (word_of Free) (omega arith))
   by (entered i q) = ap (λ (n : ℕ). set ws n (word_of (Held i q))) (first-map record_of is_free ws) ∙ sym (replace-set (λ w. is_free (record_of w)) (word_of (Held i q)) ws)
   by (removed i) = ap (λ (n : ℕ). set ws n (word_of Free)) (first-map record_of (holds_id i) ws) ∙ sym (replace-set (λ w. holds_id i (record_of w)) (word_of Free) ws)
 

@@ -4,7 +4,7 @@ use Rattle.std.proofs.Math.Option.{none, some}
 use Rattle.layout.specs.Table.{reply}
 use Rattle.layout.specs.Reading.{Answer, refused as refused_answer, read}
 use Rattle.outstanding.specs.Calls.{CallOutcome, Told, done, refused, Arrival, answered, refused-reply, arrive, Looked, seen, not_seen}
-use Rattle.outstanding_words.specs.Words.{records}
+use Rattle.outstanding_records.specs.Words.{records}
 use Rattle.exports_outstanding.specs.declared.TushaletsLooked.{TushaletsLooked}
 
 -- what the arrival of the reply m comes to in the table of the words ws

@@ -1,10 +1,11 @@
 // For a host: the table of outstanding requests, in words that the host lends. `outstanding_words` says what a word is.
 #![tactic(auto)]
 
-ghost use Rattle.std.specs.Prelude.{◌≡◌, List, map, ℕ, set};
+ghost use Rattle.std.specs.Prelude.{◌≡◌, List, ℕ, set};
 ghost use Rattle.outstanding.specs.Calls.{empty as empty_in, enter as enter_in, look as look_at, seen as seen_of};
 ghost use Rattle.outstanding_decisions.specs.Decisions as decided;
-ghost use Rattle.outstanding_words.specs.Words.{word_of, records as records_of, after_words};
+ghost use Rattle.outstanding_records.specs.Words.{word_of, records as records_of};
+ghost use Rattle.outstanding_words.specs.Words.{after_words};
 ghost use Rattle.exports.specs.Shown.{reading_of};
 ghost use Rattle.exports_reading.specs.Typed.{typed};
 ghost use Rattle.exports_outstanding.specs.Shown.{arriving, number_of, shown_of, looked_of};
@@ -33,18 +34,8 @@ pub fn tushalets_empty(records: &mut [u64]) -> u32
     if records.len() != outstanding_records::SIZE {
         return Refusal::UNSOUND_TABLE as u32;
     }
-    clear(records);
+    records.fill(0);
     0
-}
-
-fn clear(records: &mut [u64])
-    ensures { records.new ≡ map (λ w. 0) records.old }
-{
-    let mut i = 0;
-    while i < records.len() {
-        records[i] = 0;
-        i += 1;
-    }
 }
 
 // Enters a request by its id and type. Answers 0, or the number of a refusal.
@@ -83,7 +74,7 @@ fn put(records: &mut [u64], at: usize, r: Record)
     ensures { records.new ≡ set records.old at (word_of r) }
 {
     if at < records.len() {
-        records[at] = outstanding_words::word_of(r);
+        records[at] = u64::from(r);
     }
 }
 

@@ -1,14 +1,18 @@
 -- Lists of anything: where the first that is so stands, and what replacing it keeps. Assumes nothing.
 use mathlib.Core.Path.{◌≡◌, refl, sym, ◌∙◌, ap}
 use mathlib.Core.Bool.{Bool, true, false, cond, ◌||◌}
-use mathlib.Core.List.{List, [], ◌∷◌, ◌++◌, map}
-use Prim.Native.Nat.{ℕ, zero, suc, ◌+◌, ◌<◌, ◌≤◌}
-use native.Mathlib.Numerals.{add-one}
+use mathlib.Core.List.{List, [], ◌∷◌, map}
+use Prim.Native.Nat.{ℕ, suc, ◌+◌, ◌<◌}
+use native.Mathlib.Numerals.{add-one, one-add}
 use native.Mathlib.Omega.{arith}
 use lib.Dec.{ltb, leb-suc-suc}
-use lib.ListN.{length, get_or, set, take, drop}
-use lib.Seq.{drop-cons, take_all, take-suc, take-suc-set}
-use borrow.Author.Tests.{lt-ltb, le-ltb}
+use lib.ListN.{length, get_or, set, drop}
+use lib.Seq.{drop-cons}
+use borrow.Author.Tests.{lt-ltb}
+use Rattle.std.specs.Prelude.{position, Some, None}
+use Rattle.std.specs.List.{position_or_len}
+use Rattle.std.specs.Option.{is_some}
+use Rattle.std.proofs.lemmas.List.Recursion.{is_position_or_len}
 use Rattle.outstanding.specs.Records.{any, all, replace, first}
 use Rattle.layout.proofs.Tests.{and_both}
 use Rattle.outstanding.proofs.Bools.{neither}
@@ -37,12 +41,35 @@ first_any p (x ∷ l) = by (p x) (first_any p l)
     by true e = lt-ltb 0 (suc (length l)) (omega arith)
     by false e = leb-suc-suc (suc (first p l)) (length l) ∙ e
 
-module _ {A : Type 0} (p : A → Bool) (l : List A) where
-  pub is_found : first p l < length l → any p l ≡ true
-  is_found h = sym (first_any p l) ∙ lt-ltb (first p l) (length l) h
+-- ---- what `position` finds
 
-  pub not_found : length l ≤ first p l → any p l ≡ false
-  not_found h = sym (first_any p l) ∙ le-ltb (first p l) (length l) h
+module _ {A : Type 0} (p : A → Bool) where
+  first-position : (l : List A) → first p l ≡ position_or_len p l
+  first-position = is_position_or_len (first p) p refl (λ x l. ap (cond (p x) 0) (sym (one-add (first p l))))
+
+  position-any : (l : List A) → position p l ≡ cond (any p l) (Some (first p l)) None
+  position-any l = rw (sym (first-position l), first_any p l)
+
+  pub some-any : (l : List A) → is_some (position p l) ≡ any p l
+  some-any l = rw (position-any l) (by (any p l))
+    where
+      by : (b : Bool) → is_some (cond b (Some (first p l)) None) ≡ b
+      by true = refl
+      by false = refl
+
+  pub found-at : (l : List A) {i : ℕ} → position p l ≡ Some i → (i ≡ first p l) × (any p l ≡ true)
+  found-at l {i} h = by (any p l) (sym (position-any l) ∙ h)
+    where
+      by : (b : Bool) → cond b (Some (first p l)) None ≡ Some i → (i ≡ first p l) × (b ≡ true)
+      by true e = (cc, refl)
+      by false e = absurd (cc)
+
+  pub none-found : (l : List A) → position p l ≡ None → any p l ≡ false
+  none-found l h = by (any p l) (sym (position-any l) ∙ h)
+    where
+      by : (b : Bool) → cond b (Some (first p l)) None ≡ None → b ≡ false
+      by true e = absurd (cc)
+      by false e = refl
 
 -- ---- replacing
 
@@ -93,22 +120,9 @@ replaced-any p q y (x ∷ l) h e = by (p x) e (λ g. replaced-any p q y l h g)
         either true k = refl
         either false k = k
 
--- ---- a list that becomes another one, element by element from the front
-
-pub copy-turn : {A : Type 0} (d : A) (l t : List A) (i : ℕ) → i < length t → i < length l → take i t ≡ take i l → take (i + 1) (set t i (get_or l i d)) ≡ take (i + 1) l
-copy-turn {A} d l t i h k e =
-    rw (add-one i) (take-suc-set t i (get_or l i d) h ∙ ap (λ (z : List A). z ++ (get_or l i d ∷ [])) e ∙ sym (take-suc l i d k))
-
-pub copy_done : {A : Type 0} (l t : List A) (n : ℕ) → length t ≤ n → length l ≤ n → take n t ≡ take n l → t ≡ l
-copy_done l t n h k e = sym (take_all n t h) ∙ e ∙ take_all n l k
-
 -- ---- the same list, written another way: f reads an element
 
 module _ {A B : Type 0} (f : A → B) where
-  pub map-length : (l : List A) → length (map f l) ≡ length l
-  map-length [] = refl
-  map-length (x ∷ l) = ap suc (map-length l)
-
   pub first-map : (p : B → Bool) (l : List A) → first p (map f l) ≡ first (λ x. p (f x)) l
   first-map p [] = refl
   first-map p (x ∷ l) = ap (λ (n : ℕ). cond (p (f x)) 0 (suc n)) (first-map p l)
@@ -121,13 +135,3 @@ module _ {A B : Type 0} (f : A → B) where
           → map f (cond b (y ∷ l) (x ∷ replace (λ x. p (f x)) y l)) ≡ cond b (f y ∷ map f l) (f x ∷ replace p (f y) (map f l))
       by true e = refl
       by false e = ap (λ (t : List B). f x ∷ t) e
-
-  pub get_d_map : (l : List A) (i : ℕ) (d : A) → get_or (map f l) i (f d) ≡ f (get_or l i d)
-  get_d_map [] i d = refl
-  get_d_map (x ∷ l) zero d = refl
-  get_d_map (x ∷ l) (suc i) d = get_d_map l i d
-
-  pub map-set : (l : List A) (i : ℕ) (y : A) → map f (set l i y) ≡ set (map f l) i (f y)
-  map-set [] i y = refl
-  map-set (x ∷ l) zero y = refl
-  map-set (x ∷ l) (suc i) y = ap (λ (t : List B). f x ∷ t) (map-set l i y)

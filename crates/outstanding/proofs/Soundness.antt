@@ -12,7 +12,8 @@ use Rattle.outstanding.specs.Records.{is_free, holds_id, any, all, replace, dist
 use Rattle.outstanding_records.specs.Copies.{size}
 use Rattle.outstanding.specs.Calls.{type_bound, in_bounds, sound, request}
 use Rattle.layout.proofs.Tests.{and_both}
-use Rattle.outstanding.proofs.Lists.{replace-length, all-replace, map-length}
+use Rattle.std.proofs.lemmas.List.{length-map}
+use Rattle.outstanding.proofs.Lists.{replace-length, all-replace}
 use Rattle.outstanding.proofs.Maps.{distinct-cleared, distinct-entered, distinct-removed}
 
 pub record Sound (l : List Record) : Type 0 where
@@ -38,7 +39,7 @@ bounds-cleared [] = refl
 bounds-cleared (r ∷ l) = bounds-cleared l
 
 pub sound-cleared : (l : List Record) → length l ≡ size → Sound (map (λ r. Free) l)
-sound-cleared l e = record { full_size = map-length (λ (r : Record). Free) l ∙ e; bounds = bounds-cleared l; alone = distinct-cleared l }
+sound-cleared l e = record { full_size = length-map l (λ (r : Record). Free) ∙ e; bounds = bounds-cleared l; alone = distinct-cleared l }
 
 -- ---- one record less or more
 

@@ -2,7 +2,7 @@
 use Rattle.std.specs.Prelude.{ℕ, ◌≡◌, List, map}
 use Rattle.outstanding_records.specs.declared.Record.{Record}
 use Rattle.outstanding.specs.Calls.{Performed, Told, Arrival}
-use Rattle.outstanding_words.specs.Words.{word_of}
+use Rattle.outstanding_records.specs.Words.{word_of}
 use Rattle.outstanding_decisions.specs.Decisions.{told_of, arrival_of}
 use Rattle.outstanding_bridges.specs.declared.EnteredTable.{EnteredTable}
 use Rattle.outstanding_bridges.specs.declared.ArrivedTable.{ArrivedTable}

@@ -20,7 +20,8 @@ use Rattle.outstanding.proofs.Maps.{lookup-removed, held-some, free-left}
 use Rattle.outstanding.proofs.Soundness.{Sound, sound-out, sound-in, sound-removed}
 use Rattle.outstanding.proofs.Views.{Arriving, stopped, passed, arriving}
 use Rattle.outstanding.proofs.Laws.{arrived-table, arrive-stays-sound, room-again, still-answered, either_order, enter-told-alike, arrive-told-alike}
-use Rattle.outstanding_words.specs.Words.{records, after_words}
+use Rattle.outstanding_records.specs.Words.{records}
+use Rattle.outstanding_words.specs.Words.{after_words}
 use Rattle.outstanding_words.proofs.Words.{records-after, same-words}
 use Rattle.exports.specs.declared.TushaletsReading.{TushaletsReading}
 use Rattle.exports.specs.Shown.{reading_of}

@@ -1,14 +1,15 @@
 -- From the tests that a function has made to what it decides. Assumes nothing.
 use mathlib.Core.Path.{◌≡◌, refl, sym, ◌∙◌, ap}
-use mathlib.Core.Bool.{Bool, true, false, cond}
+use mathlib.Core.Bool.{Bool, true, false, cond, ◌||◌}
 use mathlib.Core.List.{List, [], ◌∷◌}
 use mathlib.Core.Option.{some}
-use Prim.Native.Nat.{ℕ, suc, ◌<◌, ◌≤◌}
+use Prim.Native.Nat.{ℕ, suc}
 use lib.Dec.{eqb}
 use native.Mathlib.Omega.{arith}
-use native.Mathlib.Nat.{not-suc-le-zero, le_of_suc-le-suc}
-use lib.ListN.{length, get_or, set}
+use lib.ListN.{length, get_or, get_or-map, set}
 use lib.Seq.{set_out}
+use Rattle.std.specs.Prelude.{position, Some}
+use Rattle.std.proofs.lemmas.List.{length-map}
 use Rattle.outstanding_records.specs.declared.Record.{Record}
 use Rattle.outstanding_records.specs.declared.Record.TheVariants.{Free, Held}
 use Rattle.layout.specs.Table.{reply}
@@ -21,8 +22,8 @@ use Rattle.reply_reader.specs.declared.ReplyAnswer.TheVariants as reply'
 use Rattle.reply_reader.specs.Answers.{answer_of}
 use Rattle.outstanding.specs.Records.{is_free, holds_id, any, first, lookup}
 use Rattle.outstanding.specs.Calls.{Change, kept, entered, removed, after, CallOutcome, outcome, performed, perform, refused-reply, settle_accepted, settle}
-use Rattle.outstanding.proofs.Lists.{replace-set, is_found, not_found, map-length, get_d_map}
-use Rattle.outstanding_words.specs.Words.{record_of, records}
+use Rattle.outstanding.proofs.Lists.{replace-set, found-at}
+use Rattle.outstanding_records.specs.Words.{record_of, records}
 use Rattle.outstanding_decisions.specs.declared.Reading.TheVariants as R
 use Rattle.outstanding_decisions.specs.Decisions.{place, stored, Decided, request_in, reading_of}
 
@@ -31,15 +32,15 @@ pub stops : {A : Type 0} {l : List Record} {a x : A} {at : ℕ} {r : Record} {o 
 stops {A} {l} {a} {x} {at} {r} {o} e f g h = rw h (record { tells = e; stands = f; stores = g })
 
 -- the map at an id is what its first holder says
-pub lookup_first : (l : List Record) (i : ℕ) (d : Record) → first (holds_id i) l < length l → lookup l i ≡ request_in (get_or l (first (holds_id i) l) d)
-lookup_first [] i d h = absurd (not-suc-le-zero h)
-lookup_first (Free ∷ l) i d h = lookup_first l i d (le_of_suc-le-suc h)
+pub lookup_first : (l : List Record) (i : ℕ) (d : Record) → any (holds_id i) l ≡ true → lookup l i ≡ request_in (get_or l (first (holds_id i) l) d)
+lookup_first [] i d h = absurd cc
+lookup_first (Free ∷ l) i d h = lookup_first l i d h
 lookup_first (Held j q ∷ l) i d h = by (eqb j i) h (λ g. lookup_first l i d g)
   where
-    by : (b : Bool) → cond b 0 (suc (first (holds_id i) l)) < suc (length l) → (first (holds_id i) l < length l → lookup l i ≡ request_in (get_or l (first (holds_id i) l) d))
+    by : (b : Bool) → (b || any (holds_id i) l) ≡ true → (any (holds_id i) l ≡ true → lookup l i ≡ request_in (get_or l (first (holds_id i) l) d))
         → cond b (some q) (lookup l i) ≡ request_in (get_or (Held j q ∷ l) (cond b 0 (suc (first (holds_id i) l))) d)
     by true g f = refl
-    by false g f = f (le_of_suc-le-suc g)
+    by false g f = f g
 
 -- a reply that its reader accepted is settled by its id and by the type in the message; one that it refused gets that refusal
 module _ (l : List Record) (m : List ℕ) where
@@ -74,18 +75,12 @@ performs {A} {l} {a} {at} {r} {o} d = rw (d.tells, d.stands, d.stores) (ap (perf
 module _ (ws : List ℕ) where
   -- a refusal stores nothing
   pub stops-in : {A : Type 0} {a x : A} {at : ℕ} {r : Record} {o : CallOutcome A} → a ≡ x → at ≡ length ws → r ≡ Free → o ≡ outcome x kept → Decided (records ws) a at r o
-  stops-in e f g h = stops e (f ∙ sym (map-length record_of ws)) g h
-
-  -- a search ends inside exactly where it finds something
-  pub found_in : (p : Record → Bool) {at : ℕ} → at ≡ first p (records ws) → at < length ws → any p (records ws) ≡ true
-  found_in p {at} e h = is_found p (records ws) (omega (arith, e, h, map-length record_of ws))
-
-  pub not-found-in : (p : Record → Bool) {at : ℕ} → at ≡ first p (records ws) → length ws ≤ at → any p (records ws) ≡ false
-  not-found-in p {at} e h = not_found p (records ws) (omega (arith, e, h, map-length record_of ws))
+  stops-in e f g h = stops e (f ∙ sym (length-map ws record_of)) g h
 
   -- the map at an id is what the word says where it is found
-  pub lookup-at : (i : ℕ) {at : ℕ} → at ≡ first (holds_id i) (records ws) → at < length ws → lookup (records ws) i ≡ request_in (record_of (get_or ws at 0))
-  lookup-at i {at} e h =
-      lookup_first (records ws) i (record_of 0) (omega (arith, e, h, map-length record_of ws))
-      ∙ ap (λ (n : ℕ). request_in (get_or (records ws) n (record_of 0))) (sym e)
-      ∙ ap request_in (get_d_map record_of ws at 0)
+  pub lookup-at : (i : ℕ) {at : ℕ} → position (holds_id i) (records ws) ≡ Some at → lookup (records ws) i ≡ request_in (record_of (get_or ws at 0))
+  lookup-at i {at} e =
+      let found = found-at (holds_id i) (records ws) e in
+      lookup_first (records ws) i (record_of 0) found.1
+      ∙ ap (λ (n : ℕ). request_in (get_or (records ws) n (record_of 0))) (sym found.0)
+      ∙ ap request_in (get_or-map record_of ws at 0)

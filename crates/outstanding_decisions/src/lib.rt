@@ -13,7 +13,7 @@ ghost use Rattle.outstanding_records.specs.Copies.{Copied};
 ghost use Rattle.outstanding.specs.Records.{lookup};
 ghost use Rattle.layout.specs.Refusals.{unsound_table};
 ghost use Rattle.outstanding.specs.Calls.{request as request_of, refused as refused_told, insert as insert_in, enter as enter_in, answers as answers_to, settle_accepted, settle as settle_in, arrive as arrive_in, look as look_at, not_seen as not_seen};
-ghost use Rattle.outstanding_words.specs.Words.{records as records_of};
+ghost use Rattle.outstanding_records.specs.Words.{records as records_of};
 ghost use Rattle.outstanding_decisions.specs.Decisions.{told_of, found_of, looked_of, EntryDecided, RemovalDecided, request_in, reading_of};
 
 use method::Method;
@@ -92,13 +92,12 @@ pub fn insert(words: &[u64], id: u32, type_number: u8) -> Entry
     if type_number >= Method::REPLY_OFFSET {
         return refused_entry(len, Refusal::UNEXPECTED_TYPE);
     }
-    if outstanding_words::find_id(words, id) < len {
+    if outstanding_words::find_id(words, id).is_some() {
         return refused_entry(len, Refusal::ID_OUTSTANDING);
     }
-    let at = outstanding_words::find_free(words);
-    if at >= len {
+    let Some(at) = outstanding_words::find_free(words) else {
         return refused_entry(len, Refusal::TABLE_FULL);
-    }
+    };
     let request = Request { type_number };
     Entry {
         at,
@@ -118,7 +117,7 @@ pub fn enter(words: &[u64], id: u32, type_number: u8) -> Entry
 }
 
 // The same for `len` records of which `table` is a copy.
-pub fn decide_entry(len: usize, table: [Record; 64], id: u32, type_number: u8) -> Entry
+pub fn decide_entry(len: usize, table: [Record; SIZE], id: u32, type_number: u8) -> Entry
     ensures { (l : List RecordType) → length l ≡ len → Copied l table
         → EntryDecided l result (enter_in l id type_number) }
 {
@@ -182,11 +181,10 @@ fn settle_accepted(words: &[u64], id: u32, type_number: u8, answer: ReplyAnswer)
         (settle_accepted (records_of words.now) id type_number (answer_of m answer)) }
 {
     let len = words.len();
-    let at = outstanding_words::find_id(words, id);
-    if at >= len {
+    let Some(at) = outstanding_words::find_id(words, id) else {
         return refused_removal(len, Refusal::ID_NOT_OUTSTANDING, 0);
-    }
-    if !answers(outstanding_words::record_of(words[at]), type_number) {
+    };
+    if !answers(Record::from(words[at]), type_number) {
         return refused_removal(len, Refusal::TYPE_MISMATCH, 0);
     }
     Removal {
@@ -222,7 +220,7 @@ pub fn arrive(words: &[u64], message: &[u8]) -> Removal
 }
 
 // The same for `len` records of which `table` is a copy.
-pub fn decide_arrival(len: usize, table: [Record; 64], message: &[u8]) -> Removal
+pub fn decide_arrival(len: usize, table: [Record; SIZE], message: &[u8]) -> Removal
     ensures { (l : List RecordType) → length l ≡ len → Copied l table
         → RemovalDecided l message.now result (arrive_in l (read reply_side message.now)) }
 {
@@ -247,12 +245,10 @@ fn refused_look() -> Looked
 fn request_of(words: &[u64], id: u32) -> Found
     ensures { found_of result ≡ lookup (records_of words.now) id }
 {
-    let at = outstanding_words::find_id(words, id);
-    if at >= words.len() {
+    let Some(at) = outstanding_words::find_id(words, id) else {
         return Found::NotOutstanding;
-    }
-    let r = outstanding_words::record_of(words[at]);
-    match r {
+    };
+    match Record::from(words[at]) {
         Record::Free => Found::NotOutstanding,
         Record::Held { request, .. } => Found::Outstanding { request },
     }
@@ -271,7 +267,7 @@ pub fn look(words: &[u64], id: u32) -> Looked
 }
 
 // The same for `len` records of which `table` is a copy.
-pub fn decide_look(len: usize, table: [Record; 64], id: u32) -> Looked
+pub fn decide_look(len: usize, table: [Record; SIZE], id: u32) -> Looked
     ensures { (l : List RecordType) → length l ≡ len → Copied l table → looked_of result ≡ look_at l id }
 {
     if len != SIZE {

@@ -1,6 +1,8 @@
-// The records of the table of outstanding requests, as a service lends them: one is stored, all are freed, all are copied. Nothing is
-// decided here.
+// The records of the table of outstanding requests, as a service lends them: one is stored, all are freed, all are copied. A record is also
+// a word of 64 bits, for a host that lends numbers. Nothing is decided here.
 #![tactic(auto)]
+
+mod word;
 
 ghost use Rattle.std.specs.Prelude.{◌≡◌, length, set, replicate};
 ghost use Rattle.outstanding_records.specs.Copies.{Copied};
@@ -9,13 +11,13 @@ ghost use Rattle.outstanding_records.specs.Copies.{Copied};
 pub const SIZE: usize = 64;
 
 // What is known of an outstanding request beside its id.
-#[derive(Clone, Copy)]
+#[derive(Clone, Copy, PartialEq, Eq, Debug)]
 pub struct Request {
     pub type_number: u8,
 }
 
 // A record of the table.
-#[derive(Clone, Copy)]
+#[derive(Clone, Copy, PartialEq, Eq, Debug)]
 pub enum Record {
     // It holds no request.
     Free,
@@ -27,6 +29,7 @@ pub enum Record {
 pub fn put(records: &mut [Record], at: usize, r: Record)
     ensures { records.new ≡ set records.old at r }
 {
+    // What `get_mut` lends is written back without a clause on the records afterwards: a proof knows only how many there are.
     if at < records.len() {
         records[at] = r;
     }
@@ -36,22 +39,12 @@ pub fn put(records: &mut [Record], at: usize, r: Record)
 pub fn clear(records: &mut [Record])
     ensures { records.new ≡ replicate (length records.old) Record.Free }
 {
-    let mut i = 0;
-    while i < records.len() {
-        records[i] = Record::Free;
-        i += 1;
-    }
+    records.fill(Record::Free);
 }
 
 // A copy of 64 records. Of another number of records, what it holds is left open.
-pub fn load(records: &[Record]) -> [Record; 64]
+pub fn load(records: &[Record]) -> [Record; SIZE]
     ensures { Copied records.now result }
 {
-    let mut table = [Record::Free; 64];
-    let mut i = 0;
-    while i < SIZE && i < records.len() {
-        table[i] = records[i];
-        i += 1;
-    }
-    table
+    <[Record; SIZE]>::try_from(records).unwrap_or([Record::Free; SIZE])
 }

@@ -1,2 +1,3 @@
 pub mod Words
-mod Scans
+pub mod Searches
+pub mod Scans

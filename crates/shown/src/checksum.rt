@@ -1,7 +1,7 @@
 // The checksums of an answer.
 ghost use Rattle.std.specs.Prelude.{◌≡◌};
 ghost use Rattle.number.specs.BigEndian.{bytes_of};
-ghost use Rattle.outstanding_words.specs.Words.{records as records_of};
+ghost use Rattle.outstanding_records.specs.Words.{records as records_of};
 ghost use Rattle.shown.specs.Checksum.{with_byte, checksum_after, checksum, numbers_bytes, fields_bytes, record_bytes, records_bytes};
 
 use outstanding_records::{Record, SIZE};
@@ -31,13 +31,13 @@ pub(crate) fn of_numbers(numbers: &[u32]) -> u64
 }
 
 // The checksum of the records that words are, each as 6 bytes: whether it is held, its id, its type.
-pub(crate) fn of_records(words: [u64; 64]) -> u64
+pub(crate) fn of_records(words: [u64; SIZE]) -> u64
     ensures { result ≡ checksum (records_bytes (records_of words)) }
 {
     let mut h = 0;
     let mut i = 0;
     while i < SIZE {
-        h = with_record(h, outstanding_words::record_of(words[i]));
+        h = with_record(h, Record::from(words[i]));
         i += 1;
     }
     h

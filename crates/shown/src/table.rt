@@ -46,10 +46,10 @@ pub(crate) fn answer(body: &[u8]) {
 }
 
 // The table whose records stand there one behind the other.
-fn read_table(records: &[u8]) -> [Record; 64]
+fn read_table(records: &[u8]) -> [Record; SIZE]
     ensures { result ≡ table_in records.now }
 {
-    let mut table = [Record::Free; 64];
+    let mut table = [Record::Free; SIZE];
     let mut i = 0;
     while i < SIZE {
         table[i] = read_record(cases::rest(records, i * RECORD_LEN));

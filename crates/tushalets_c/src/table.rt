@@ -1,7 +1,8 @@
 // For a host: the table of outstanding requests, in words that the host lends. `outstanding_words` says what a word is.
 ghost use Rattle.std.specs.Prelude.{◌≡◌};
 ghost use Rattle.outstanding.specs.Calls.{empty as empty_in, enter as enter_in, look as look_at};
-ghost use Rattle.outstanding_words.specs.Words.{records as records_of, after_words};
+ghost use Rattle.outstanding_records.specs.Words.{records as records_of};
+ghost use Rattle.outstanding_words.specs.Words.{after_words};
 ghost use Rattle.exports.specs.Shown.{reading_of};
 ghost use Rattle.exports_outstanding.specs.Shown.{arriving, number_of, shown_of, looked_of};
 

@@ -5,7 +5,7 @@ use Rattle.exports.specs.Shown.{reading_of}
 use Rattle.exports_reading.specs.Typed.{typed}
 use Rattle.exports_outstanding.specs.Shown.{shown_of}
 use Rattle.outstanding_decisions.specs.Decisions.{arrival_of}
-use Rattle.outstanding_words.specs.Words.{records}
+use Rattle.outstanding_records.specs.Words.{records}
 use Rattle.exports_outstanding.proofs.Storing.{stores, typed-arrival}
 use Rattle.exports_outstanding.proofs.tushalets_arrive.Goals as goal
 

@@ -3,7 +3,7 @@ use mathlib.Core.Path.{ap, ◌∙◌}
 use mathlib.Core.List.{map}
 use Rattle.outstanding_records.specs.declared.Record.{Record}
 use Rattle.outstanding.specs.Calls.{Performed, Told}
-use Rattle.outstanding_words.specs.Words.{word_of}
+use Rattle.outstanding_records.specs.Words.{word_of}
 use Rattle.outstanding_decisions.specs.Decisions.{told_of}
 use Rattle.outstanding_bridges.proofs.enter.Goals as goal
 

@@ -1,10 +1,9 @@
 -- `outstanding_claims::arrive_alike` meets its contract. Assumes nothing.
 use mathlib.Core.Path.{sym, ap, ◌∙◌}
-use borrow.Author.Rules.{rules}
 use Rattle.layout.specs.Table.{reply}
 use Rattle.layout.specs.Reading.{read}
 use Rattle.outstanding.specs.Calls.{CallOutcome, Arrival, look}
-use Rattle.outstanding_words.specs.Words.{records}
+use Rattle.outstanding_records.specs.Words.{records}
 use Rattle.exports.specs.Shown.{reading_of}
 use Rattle.exports.specs.declared.TushaletsReading.{TushaletsReading}
 use Rattle.exports_outstanding.specs.Shown.{shown_of, looked_of}

@@ -1,6 +1,5 @@
 -- `outstanding_claims::arrive_twice` meets its contract. Assumes nothing.
 use mathlib.Core.Path.{ap, ◌∙◌}
-use borrow.Author.Rules.{rules}
 use Rattle.layout.specs.Table.{reply}
 use Rattle.layout.specs.Reading.{read}
 use Rattle.exports.specs.declared.TushaletsReading.{TushaletsReading}

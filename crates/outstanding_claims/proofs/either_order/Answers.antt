@@ -1,6 +1,5 @@
 -- `outstanding_claims::either_order` meets its contract. Assumes nothing.
 use mathlib.Core.Path.{sym, ap, ◌∙◌}
-use borrow.Author.Rules.{rules}
 use Rattle.layout.specs.Table.{reply}
 use Rattle.layout.specs.Reading.{read}
 use Rattle.exports.specs.Shown.{reading_of}

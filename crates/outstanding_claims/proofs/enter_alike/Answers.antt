@@ -1,8 +1,7 @@
 -- `outstanding_claims::enter_alike` meets its contract. Assumes nothing.
 use mathlib.Core.Path.{sym, ap, ◌∙◌}
-use borrow.Author.Rules.{rules}
 use Rattle.outstanding.specs.Calls.{CallOutcome, Told}
-use Rattle.outstanding_words.specs.Words.{records}
+use Rattle.outstanding_records.specs.Words.{records}
 use Rattle.exports_outstanding.specs.Shown.{number_of}
 use Rattle.outstanding_claims.proofs.Together.{entries-alike}
 use Rattle.outstanding_claims.proofs.enter_alike.Goals as goal

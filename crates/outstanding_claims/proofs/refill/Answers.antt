@@ -1,10 +1,9 @@
 -- `outstanding_claims::refill` meets its contract. Assumes nothing.
 use mathlib.Core.Path.{sym, ap, ◌∙◌}
-use borrow.Author.Rules.{rules}
 use Rattle.layout.specs.Table.{reply}
 use Rattle.layout.specs.Reading.{read}
 use Rattle.outstanding.specs.Calls.{enter, look}
-use Rattle.outstanding_words.specs.Words.{records}
+use Rattle.outstanding_records.specs.Words.{records}
 use Rattle.exports.specs.declared.TushaletsReading.{TushaletsReading}
 use Rattle.exports_outstanding.specs.Shown.{number_of, looked_of}
 use Rattle.outstanding_claims.proofs.Together.{refilled}

@@ -1,6 +1,6 @@
 -- `outstanding_decisions::settle` meets its contract. Assumes nothing.
 use mathlib.Core.Path.{sym, ◌∙◌}
-use Rattle.outstanding_words.specs.Words.{records}
+use Rattle.outstanding_records.specs.Words.{records}
 use Rattle.outstanding_decisions.proofs.Deciding.{settle-accepted}
 use Rattle.outstanding_decisions.proofs.settle.Goals as goal
 

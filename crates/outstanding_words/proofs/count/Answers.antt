@@ -1,20 +1,16 @@
 -- `outstanding_words::count` meets its contract. Assumes nothing.
-use mathlib.Core.Path.{sym}
-use native.Mathlib.Omega.{arith}
-use native.Mathlib.Nat.{zero-add}
-use Rattle.outstanding_words.proofs.Scans.{count-later, count_past}
+use Rattle.std.proofs.Common.{sym, ◌∙◌, not, rules}
+use Rattle.std.proofs.lemmas.Iterator.{YieldsList-from_slice, YieldsList-from_map}
+use Rattle.std.proofs.lemmas.Iterator.Consumers.{YieldsList-from_filter, count_from_yields_List}
+use Rattle.outstanding.specs.Records.{is_free}
+use Rattle.outstanding_records.specs.Words.{record_of, records}
+use Rattle.outstanding_words.proofs.Searches.{ids_held}
 use Rattle.outstanding_words.proofs.count.Goals as goal
-
-pub loop-i-init : goal.loop-i-init
-loop-i-init c = (omega arith, omega arith, sym (zero-add _))
-
-pub loop-i-preserved : goal.loop-i-preserved
-loop-i-preserved c =
-    let v = c in
-    let h = c.loop-i-test.true in
-    (omega (arith, h), omega arith, omega (arith, v.loop-i.invariant.2, c.held_count-n.ensures.0, count-later v.args.words.now v.loop-i.i h))
 
 pub returns : goal.returns
 returns c =
-    let v = c in
-    omega (arith, v.loop-i.invariant.2, count_past v.args.words.now v.loop-i.i c.loop-i-test.false)
+    count_from_yields_List c.filter.result _ c.count.ensures.ran
+    (YieldsList-from_filter _ (λ r. not (is_free r))
+    (YieldsList-from_map _ record_of (YieldsList-from_slice c.args.words.now cc) c.map.ensures.closure (λ w r q k. search rules))
+    c.filter.ensures.closure (λ r b q k. search rules))
+    ∙ sym (ids_held (records c.args.words.now))

@@ -2,11 +2,11 @@
 use Prim.Native.Nat.{◌-◌}
 use mathlib.Core.Path.{◌≡◌, refl, ◌∙◌}
 use native.Mathlib.Omega.{arith}
-use lib.ListN.{length, drop}
+use lib.ListN.{length, drop, get_or-map}
 use borrow.Author.Rules.{rules}
 use Rattle.outstanding_records.specs.declared.Record.TheVariants.{Free}
-use Rattle.outstanding.proofs.Lists.{map-length, get_d_map}
-use Rattle.outstanding_words.specs.Words.{record_of, records}
+use Rattle.std.proofs.lemmas.List.{length-map}
+use Rattle.outstanding_records.specs.Words.{record_of, records}
 use Rattle.shown.specs.Checksum.{checksum_after, checksum, record_bytes, records_bytes}
 use Rattle.shown.proofs.Checksums.{element-turn, elements-done}
 use Rattle.shown.proofs.checksum.of_records.Goals as goal
@@ -21,11 +21,11 @@ loop-i-preserved c =
     let words = v.args.words in
     let size : length words ≡ 64 = search rules in
     let inside = c.loop-i-test.true in
-    rw (c.with_record-h.ensures, c.record_of.ensures, ← get_d_map record_of words v.loop-i.i 0) (element-turn record_bytes (records words) v.loop-i.i v.loop-i.h Free (omega (arith, inside, size, map-length record_of words)) ∙ v.loop-i.invariant)
+    rw (c.with_record-h.ensures, c.from.ensures, ← get_or-map record_of words v.loop-i.i 0) (element-turn record_bytes (records words) v.loop-i.i v.loop-i.h Free (omega (arith, inside, size, length-map words record_of)) ∙ v.loop-i.invariant)
 
 pub returns : goal.returns
 returns c =
     let v = c in
     let words = v.args.words in
     let size : length words ≡ 64 = search rules in
-    elements-done record_bytes (records words) v.loop-i.i v.loop-i.h _ (omega (arith, c.loop-i-test.false, size, map-length record_of words)) v.loop-i.invariant
+    elements-done record_bytes (records words) v.loop-i.i v.loop-i.h _ (omega (arith, c.loop-i-test.false, size, length-map words record_of)) v.loop-i.invariant

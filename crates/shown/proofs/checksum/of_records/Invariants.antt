@@ -5,8 +5,7 @@ use native.Mathlib.Omega.{arith}
 use lib.ListN.{length, drop}
 use borrow.Author.Rules.{rules}
 use Rattle.outstanding_records.specs.declared.Record.TheVariants.{Free}
-use Rattle.outstanding.proofs.Lists.{map-length, get_d_map}
-use Rattle.outstanding_words.specs.Words.{record_of, records}
+use Rattle.outstanding_records.specs.Words.{record_of, records}
 use Rattle.shown.specs.Checksum.{checksum_after, checksum, record_bytes, records_bytes}
 use Rattle.shown.proofs.Checksums.{element-turn, elements-done}
 use Rattle.shown.proofs.checksum.of_records.Given as goal
