@@ -1,16 +1,23 @@
 -- The rule of the table: numbers 1 to 23, each once; a reply number is a request number plus 0x80; from and to the number are
 -- inverse. Assumes nothing.
-use mathlib.Core.Path.{◌≡◌, refl, ap, ◌∙◌}
+use mathlib.Core.Path.{◌≡◌, refl, ap, sym, ◌∙◌}
 use mathlib.Core.Bool.{Bool, true, false, ◌&&◌, ◌||◌, cond}
 use mathlib.Core.List.{List, [], ◌∷◌, map, reverse}
+use denote.Ref.{Bor}
 use Prim.Native.Nat.{ℕ, zero, suc, ◌+◌, ◌-◌, ◌≤◌, ◌<◌}
 use native.Mathlib.Decide.{dec_lt}
 use native.Mathlib.Omega.{arith}
 use lib.Dec.{eqb, leb, ltb}
+use lib.ListN.{length}
 use borrow.Author.Tests.{eqb-true, eqb-false, eq-eqb, ne_eqb, leb-true, ltb-true}
+use Rattle.std.specs.Prelude.{Option, None, Some}
+use Rattle.std.specs.List.{slice_get}
+use Rattle.std.specs.Option.{option_copied}
+use Rattle.std.specs.Slice.{IsItemAt}
+use Rattle.std.proofs.lemmas.Option.{slice_get_past, slice_get_read}
 use Rattle.method.specs.declared.Method.{Method}
 use Rattle.method.specs.declared.Method.TheVariants.{Access, Getattr, Readlink, Symlink, Link, Rename, Chmod, Chown, Truncate, Fsync, Open, Mknod, Create, Release, Unlink, Read, Write, Mkdir, Readdir, Rmdir, Statfs, Utimens, Getcreds}
-use Rattle.method.specs.Methods.{methods, request_number, reply_offset, reply_number, Found, found, unknown, lookup, of_request, of_reply}
+use Rattle.method.specs.Methods.{methods, request_number, reply_offset, reply_number, Found, found, unknown, lookup, of_request, of_reply, found_method}
 
 -- ---- numbers 1 to 23, each once
 
@@ -214,3 +221,26 @@ request-above n l = above request_number methods 23 n refl l
 pub request-zero : of_request 0 ≡ unknown
 unfolding of_request
 request-zero = refl
+
+-- ---- where the numbers count upwards, a number is found at its place
+
+-- the numbers under f count upwards from a: a + i is the number of the method at place i, and past the end of none
+counted : (f : Method → ℕ) (ms : List Method) (a n i : ℕ) → map f ms ≡ upwards a (length ms) → n ≡ a + i → lookup f ms n ≡ found_method (slice_get ms i)
+counted f [] a n i e h = refl
+counted f (m ∷ ms) a n zero e h =
+    let first : f m ≡ a = cc in
+    rw (eq-eqb n (f m) (omega arith))
+counted f (m ∷ ms) a n (suc i) e h =
+    let first : f m ≡ a = cc in
+    let rest : map f ms ≡ upwards (suc a) (length ms) = cc in
+    rw (ne_eqb n (f m) (λ s. omega arith)) (counted f ms (suc a) n i rest (omega arith))
+
+-- what `get` and `copied` read at a place
+item-copied : {X : Type 0} (xs : List X) (i : ℕ) (r : Option (Bor X)) → IsItemAt xs i r → option_copied r ≡ slice_get xs i
+item-copied xs i None h = sym (slice_get_past xs i h.3)
+item-copied xs i (Some x) h = sym (slice_get_read xs (length xs) i x.now refl h.3.0 h.1)
+
+-- a request number is looked up as the place below it
+pub request-at : (n i : ℕ) (r : Option (Bor Method)) → 1 ≤ n → i ≡ n - 1 → IsItemAt methods i r → found_method (option_copied r) ≡ of_request n
+unfolding of_request
+request-at n i r l e h = ap found_method (item-copied methods i r h) ∙ sym (counted request_number methods 1 n i numbers (omega arith))

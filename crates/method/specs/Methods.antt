@@ -1,9 +1,7 @@
 -- The methods and their numbers, as document 01's table has them.
-use Rattle.std.specs.Prelude.{ℕ, ◌+◌, cond, List, [], ◌∷◌, eqb}
+use Rattle.std.specs.Prelude.{ℕ, ◌+◌, cond, List, [], ◌∷◌, eqb, Option, None, Some}
 use Rattle.method.specs.declared.Method.{Method}
 use Rattle.method.specs.declared.Method.TheVariants.{Access, Getattr, Readlink, Symlink, Link, Rename, Chmod, Chown, Truncate, Fsync, Open, Mknod, Create, Release, Unlink, Read, Write, Mkdir, Readdir, Rmdir, Statfs, Utimens, Getcreds}
-use Rattle.method.specs.declared.Lookup.{Lookup}
-use Rattle.method.specs.declared.Lookup.TheVariants as L
 
 -- every method, in document 01's order
 abbrev pub methods : List Method
@@ -83,6 +81,6 @@ unfoldable pub of_reply : ℕ → Found
 of_reply n = lookup reply_number methods n
 
 -- what an answer says
-abbrev pub found_method : Lookup → Found
-found_method (L.Found m) = found m
-found_method L.Unknown = unknown
+abbrev pub found_method : Option Method → Found
+found_method (Some m) = found m
+found_method None = unknown

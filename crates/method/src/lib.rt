@@ -4,113 +4,148 @@
 ghost use Rattle.std.specs.Prelude.{◌≡◌};
 ghost use Rattle.method.specs.Methods.{request_number, reply_number, of_request, of_reply, found_method};
 
-// A method of the file system, in document 01's order.
-#[derive(Clone, Copy)]
+// A method of the file system, in document 01's order, with its request number. Its reply number is `REPLY_OFFSET` above.
+#[derive(Clone, Copy, Debug, PartialEq, Eq)]
 pub enum Method {
-    // Request 01, reply 81.
-    Access,
-    // Request 02, reply 82.
-    Getattr,
-    // Request 03, reply 83.
-    Readlink,
-    // Request 04, reply 84.
-    Symlink,
-    // Request 05, reply 85.
-    Link,
-    // Request 06, reply 86.
-    Rename,
-    // Request 07, reply 87.
-    Chmod,
-    // Request 08, reply 88.
-    Chown,
-    // Request 09, reply 89.
-    Truncate,
-    // Request 0a, reply 8a.
-    Fsync,
-    // Request 0b, reply 8b.
-    Open,
-    // Request 0c, reply 8c.
-    Mknod,
-    // Request 0d, reply 8d.
-    Create,
-    // Request 0e, reply 8e.
-    Release,
-    // Request 0f, reply 8f.
-    Unlink,
-    // Request 10, reply 90.
-    Read,
-    // Request 11, reply 91.
-    Write,
-    // Request 12, reply 92.
-    Mkdir,
-    // Request 13, reply 93.
-    Readdir,
-    // Request 14, reply 94.
-    Rmdir,
-    // Request 15, reply 95.
-    Statfs,
-    // Request 16, reply 96.
-    Utimens,
-    // Request 17, reply 97.
-    Getcreds,
+    Access = 0x01,
+    Getattr = 0x02,
+    Readlink = 0x03,
+    Symlink = 0x04,
+    Link = 0x05,
+    Rename = 0x06,
+    Chmod = 0x07,
+    Chown = 0x08,
+    Truncate = 0x09,
+    Fsync = 0x0a,
+    Open = 0x0b,
+    Mknod = 0x0c,
+    Create = 0x0d,
+    Release = 0x0e,
+    Unlink = 0x0f,
+    Read = 0x10,
+    Write = 0x11,
+    Mkdir = 0x12,
+    Readdir = 0x13,
+    Rmdir = 0x14,
+    Statfs = 0x15,
+    Utimens = 0x16,
+    Getcreds = 0x17,
 }
 
-// What looking a number up finds.
-#[derive(Clone, Copy)]
-pub enum Lookup {
-    // It is this method's.
-    Found(Method),
-    // It is no method's.
-    Unknown,
-}
-
-// The request number of each method, and its reply number.
 impl Method {
-    pub const ACCESS: u8 = 0x01;
+    // Every method, in the order of the request numbers.
+    const ALL: [Method; 23] = [
+        Method::Access,
+        Method::Getattr,
+        Method::Readlink,
+        Method::Symlink,
+        Method::Link,
+        Method::Rename,
+        Method::Chmod,
+        Method::Chown,
+        Method::Truncate,
+        Method::Fsync,
+        Method::Open,
+        Method::Mknod,
+        Method::Create,
+        Method::Release,
+        Method::Unlink,
+        Method::Read,
+        Method::Write,
+        Method::Mkdir,
+        Method::Readdir,
+        Method::Rmdir,
+        Method::Statfs,
+        Method::Utimens,
+        Method::Getcreds,
+    ];
 
-    pub const GETATTR: u8 = 0x02;
+    // The least request number: the one of the method at place 0 of `ALL`.
+    const FIRST_REQUEST: u8 = Method::Access as u8;
 
-    pub const READLINK: u8 = 0x03;
+    // What a reply number is above the request number.
+    pub const REPLY_OFFSET: u8 = 0x80;
 
-    pub const SYMLINK: u8 = 0x04;
+    // The unknown response, which answers a request of no method.
+    pub const UNKNOWN_RESPONSE: u8 = 0x80;
 
-    pub const LINK: u8 = 0x05;
+    // The number of the method's request.
+    pub fn request_number(self) -> u8
+        ensures { result ≡ request_number self }
+    {
+        self as u8
+    }
 
-    pub const RENAME: u8 = 0x06;
+    // The number of the method's reply.
+    pub fn reply_number(self) -> u8
+        ensures { result ≡ reply_number self }
+    {
+        self.request_number() + Method::REPLY_OFFSET
+    }
 
-    pub const CHMOD: u8 = 0x07;
+    // The method whose request has this number, if there is one.
+    pub fn of_request(number: u8) -> Option<Method>
+        ensures { found_method result ≡ of_request number }
+    {
+        let place = number.checked_sub(Method::FIRST_REQUEST)?;
+        Method::ALL.get(place as usize).copied()
+    }
 
-    pub const CHOWN: u8 = 0x08;
+    // The method whose reply has this number, if there is one.
+    pub fn of_reply(number: u8) -> Option<Method>
+        ensures { found_method result ≡ of_reply number }
+    {
+        Method::of_request(number.checked_sub(Method::REPLY_OFFSET)?)
+    }
+}
 
-    pub const TRUNCATE: u8 = 0x09;
+// Each method's request number, and its reply number, where code matches on a type.
+impl Method {
+    pub const ACCESS: u8 = Method::Access as u8;
 
-    pub const FSYNC: u8 = 0x0a;
+    pub const GETATTR: u8 = Method::Getattr as u8;
 
-    pub const OPEN: u8 = 0x0b;
+    pub const READLINK: u8 = Method::Readlink as u8;
 
-    pub const MKNOD: u8 = 0x0c;
+    pub const SYMLINK: u8 = Method::Symlink as u8;
 
-    pub const CREATE: u8 = 0x0d;
+    pub const LINK: u8 = Method::Link as u8;
 
-    pub const RELEASE: u8 = 0x0e;
+    pub const RENAME: u8 = Method::Rename as u8;
 
-    pub const UNLINK: u8 = 0x0f;
+    pub const CHMOD: u8 = Method::Chmod as u8;
 
-    pub const READ: u8 = 0x10;
+    pub const CHOWN: u8 = Method::Chown as u8;
 
-    pub const WRITE: u8 = 0x11;
+    pub const TRUNCATE: u8 = Method::Truncate as u8;
 
-    pub const MKDIR: u8 = 0x12;
+    pub const FSYNC: u8 = Method::Fsync as u8;
 
-    pub const READDIR: u8 = 0x13;
+    pub const OPEN: u8 = Method::Open as u8;
 
-    pub const RMDIR: u8 = 0x14;
+    pub const MKNOD: u8 = Method::Mknod as u8;
 
-    pub const STATFS: u8 = 0x15;
+    pub const CREATE: u8 = Method::Create as u8;
 
-    pub const UTIMENS: u8 = 0x16;
+    pub const RELEASE: u8 = Method::Release as u8;
 
-    pub const GETCREDS: u8 = 0x17;
+    pub const UNLINK: u8 = Method::Unlink as u8;
+
+    pub const READ: u8 = Method::Read as u8;
+
+    pub const WRITE: u8 = Method::Write as u8;
+
+    pub const MKDIR: u8 = Method::Mkdir as u8;
+
+    pub const READDIR: u8 = Method::Readdir as u8;
+
+    pub const RMDIR: u8 = Method::Rmdir as u8;
+
+    pub const STATFS: u8 = Method::Statfs as u8;
+
+    pub const UTIMENS: u8 = Method::Utimens as u8;
+
+    pub const GETCREDS: u8 = Method::Getcreds as u8;
 
     pub const ACCESS_REPLY: u8 = Method::ACCESS + Method::REPLY_OFFSET;
 
@@ -157,90 +192,4 @@ impl Method {
     pub const UTIMENS_REPLY: u8 = Method::UTIMENS + Method::REPLY_OFFSET;
 
     pub const GETCREDS_REPLY: u8 = Method::GETCREDS + Method::REPLY_OFFSET;
-
-    // What a reply number is above the request number.
-    pub const REPLY_OFFSET: u8 = 0x80;
-
-    // The unknown response, which answers a request of no method.
-    pub const UNKNOWN_RESPONSE: u8 = 0x80;
-
-    // The number of the method's request.
-    pub fn request_number(self) -> u8
-        ensures { result ≡ request_number self }
-    {
-        match self {
-            Method::Access => Method::ACCESS,
-            Method::Getattr => Method::GETATTR,
-            Method::Readlink => Method::READLINK,
-            Method::Symlink => Method::SYMLINK,
-            Method::Link => Method::LINK,
-            Method::Rename => Method::RENAME,
-            Method::Chmod => Method::CHMOD,
-            Method::Chown => Method::CHOWN,
-            Method::Truncate => Method::TRUNCATE,
-            Method::Fsync => Method::FSYNC,
-            Method::Open => Method::OPEN,
-            Method::Mknod => Method::MKNOD,
-            Method::Create => Method::CREATE,
-            Method::Release => Method::RELEASE,
-            Method::Unlink => Method::UNLINK,
-            Method::Read => Method::READ,
-            Method::Write => Method::WRITE,
-            Method::Mkdir => Method::MKDIR,
-            Method::Readdir => Method::READDIR,
-            Method::Rmdir => Method::RMDIR,
-            Method::Statfs => Method::STATFS,
-            Method::Utimens => Method::UTIMENS,
-            Method::Getcreds => Method::GETCREDS,
-        }
-    }
-
-    // The number of the method's reply.
-    pub fn reply_number(self) -> u8
-        ensures { result ≡ reply_number self }
-    {
-        self.request_number() + Method::REPLY_OFFSET
-    }
-
-    // The method whose request has this number.
-    pub fn of_request(number: u8) -> Lookup
-        ensures { found_method result ≡ of_request number }
-    {
-        match number {
-            Method::ACCESS => Lookup::Found(Method::Access),
-            Method::GETATTR => Lookup::Found(Method::Getattr),
-            Method::READLINK => Lookup::Found(Method::Readlink),
-            Method::SYMLINK => Lookup::Found(Method::Symlink),
-            Method::LINK => Lookup::Found(Method::Link),
-            Method::RENAME => Lookup::Found(Method::Rename),
-            Method::CHMOD => Lookup::Found(Method::Chmod),
-            Method::CHOWN => Lookup::Found(Method::Chown),
-            Method::TRUNCATE => Lookup::Found(Method::Truncate),
-            Method::FSYNC => Lookup::Found(Method::Fsync),
-            Method::OPEN => Lookup::Found(Method::Open),
-            Method::MKNOD => Lookup::Found(Method::Mknod),
-            Method::CREATE => Lookup::Found(Method::Create),
-            Method::RELEASE => Lookup::Found(Method::Release),
-            Method::UNLINK => Lookup::Found(Method::Unlink),
-            Method::READ => Lookup::Found(Method::Read),
-            Method::WRITE => Lookup::Found(Method::Write),
-            Method::MKDIR => Lookup::Found(Method::Mkdir),
-            Method::READDIR => Lookup::Found(Method::Readdir),
-            Method::RMDIR => Lookup::Found(Method::Rmdir),
-            Method::STATFS => Lookup::Found(Method::Statfs),
-            Method::UTIMENS => Lookup::Found(Method::Utimens),
-            Method::GETCREDS => Lookup::Found(Method::Getcreds),
-            _ => Lookup::Unknown,
-        }
-    }
-
-    // The method whose reply has this number.
-    pub fn of_reply(number: u8) -> Lookup
-        ensures { found_method result ≡ of_reply number }
-    {
-        if number < Method::REPLY_OFFSET {
-            return Lookup::Unknown;
-        }
-        Method::of_request(number - Method::REPLY_OFFSET)
-    }
 }

@@ -1,2 +1,1 @@
 mod Nameless
-mod Runless

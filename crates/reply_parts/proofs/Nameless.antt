@@ -1,28 +1,37 @@
--- Replies that show nothing. Assumes nothing.
+-- A success has no creds: only the getcreds reply, which has no result, has them. Assumes nothing.
 use mathlib.Core.Path.{◌≡◌, refl}
-use mathlib.Core.Bool.{Bool, true, false, cond}
-use mathlib.Core.List.{List, [], ◌∷◌}
-use Prim.Native.String.{String}
+use mathlib.Core.List.{List, ◌∷◌}
+use Prim.Native.Nat.{ℕ}
 use lib.IntN.{ℤ}
-use lib.Text.{eqt}
-use Rattle.layout.specs.Kinds.{Field}
+use Rattle.method.specs.Methods.{of_reply}
+use Rattle.layout.specs.Table.{reply}
 use Rattle.layout.specs.Values.{signed}
-use Rattle.layout.specs.Parts.{nothing, named}
-use Rattle.layout.proofs.PartsNamed.{none_named}
-use Rattle.reply_parts.specs.Parts.{parts_by, no_parts}
+use Rattle.layout.specs.Parts.{nothing, named, fields_of}
+use Rattle.reply_reader.specs.declared.Reply.{Reply}
+use Rattle.reply_reader.specs.declared.Reply.TheVariants as R
+use Rattle.reply_reader.specs.Answers.{type_of, values_of}
 
--- a failure shows its result alone, and a result is no part
-pub failure-nameless : (fs : List Field) (z : ℤ) → parts_by (λ n. named n fs (signed z ∷ [])) ≡ no_parts
-failure-nameless [] z = refl
-failure-nameless (f ∷ fs) z = rw (one "resolved", one "data", one "creds")
-  where
-    picked : (b : Bool) → cond b nothing nothing ≡ nothing
-    picked true = refl
-    picked false = refl
-
-    one : (n : String) → named n (f ∷ fs) (signed z ∷ []) ≡ nothing
-    one n = rw (none_named n fs) (picked (eqt n f.name))
-
--- the unknown response has no part
-pub unknown-nameless : (fs : List Field) → parts_by (λ n. named n fs []) ≡ no_parts
-unknown-nameless fs = rw (none_named "resolved" fs, none_named "data" fs, none_named "creds" fs)
+pub success_without_creds : (m : List ℕ) (z : ℤ) (q : Reply) → named "creds" (fields_of reply (type_of q)) (signed z ∷ values_of m q) ≡ nothing
+unfolding fields_of of_reply
+success_without_creds m z R.Access = refl
+success_without_creds m z (R.Getattr attributes) = refl
+success_without_creds m z (R.Readlink resolved) = refl
+success_without_creds m z R.Symlink = refl
+success_without_creds m z R.Link = refl
+success_without_creds m z R.Rename = refl
+success_without_creds m z R.Chmod = refl
+success_without_creds m z R.Chown = refl
+success_without_creds m z R.Truncate = refl
+success_without_creds m z R.Fsync = refl
+success_without_creds m z (R.Open handle) = refl
+success_without_creds m z R.Mknod = refl
+success_without_creds m z (R.Create handle) = refl
+success_without_creds m z R.Release = refl
+success_without_creds m z R.Unlink = refl
+success_without_creds m z (R.Read content) = refl
+success_without_creds m z R.Write = refl
+success_without_creds m z R.Mkdir = refl
+success_without_creds m z (R.Readdir count) = refl
+success_without_creds m z R.Rmdir = refl
+success_without_creds m z (R.Statfs statistics) = refl
+success_without_creds m z R.Utimens = refl

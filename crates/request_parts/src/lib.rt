@@ -1,138 +1,23 @@
 // The texts and the data of a request that was read, each as a part of the message itself.
-#![tactic(auto)]
+#![tactic(auto, unfolding(layout::specs::Parts::fields_of, method::specs::Methods::of_request))]
 
 ghost use Rattle.std.specs.Prelude.{◌≡◌};
 ghost use Rattle.layout.specs.Table.{request as request_side};
 ghost use Rattle.layout.specs.Parts.{part_named};
-ghost use Rattle.wire.specs.Runs.{part_of, Shows};
+ghost use Rattle.wire.specs.Runs.{Shows};
 ghost use Rattle.request_reader.specs.Answers.{answer_of};
-ghost use Rattle.request_parts.specs.Parts.{parts_of, parts_named, parts_of_request, only_path, path_and_data, two_paths, link_paths, no_parts};
+ghost use Rattle.request_parts.specs.Parts.{part_in};
 
 use request_reader::{Request, RequestAnswer};
 use wire::Run;
 
-// The runs of a request by the names of its fields; a run that it does not have is empty.
-#[derive(Clone, Copy)]
-struct Runs {
-    path: Run,
-    target: Run,
-    linkpath: Run,
-    old_path: Run,
-    new_path: Run,
-    data: Run,
-}
-
-fn no_runs() -> Runs
-    ensures { parts_of result ≡ no_parts }
-{
-    let none = Run::EMPTY;
-    Runs {
-        path: none,
-        target: none,
-        linkpath: none,
-        old_path: none,
-        new_path: none,
-        data: none,
-    }
-}
-
-fn only_path(path: Run) -> Runs
-    ensures { parts_of result ≡ only_path (part_of path) }
-{
-    let none = Run::EMPTY;
-    Runs {
-        path,
-        target: none,
-        linkpath: none,
-        old_path: none,
-        new_path: none,
-        data: none,
-    }
-}
-
-fn path_and_data(path: Run, data: Run) -> Runs
-    ensures { parts_of result ≡ path_and_data (part_of path) (part_of «data») }
-{
-    let none = Run::EMPTY;
-    Runs {
-        path,
-        target: none,
-        linkpath: none,
-        old_path: none,
-        new_path: none,
-        data,
-    }
-}
-
-fn link_paths(target: Run, linkpath: Run) -> Runs
-    ensures { parts_of result ≡ link_paths (part_of target) (part_of linkpath) }
-{
-    let none = Run::EMPTY;
-    Runs {
-        path: none,
-        target,
-        linkpath,
-        old_path: none,
-        new_path: none,
-        data: none,
-    }
-}
-
-fn two_paths(old_path: Run, new_path: Run) -> Runs
-    ensures { parts_of result ≡ two_paths (part_of old_path) (part_of new_path) }
-{
-    let none = Run::EMPTY;
-    Runs {
-        path: none,
-        target: none,
-        linkpath: none,
-        old_path,
-        new_path,
-        data: none,
-    }
-}
-
-fn runs_of_request(request: Request) -> Runs
-    ensures { parts_of result ≡ parts_of_request request }
-{
-    match request {
-        Request::Access { path, .. } => only_path(path),
-        Request::Getattr { path } => only_path(path),
-        Request::Readlink { path } => only_path(path),
-        Request::Symlink { target, linkpath } => link_paths(target, linkpath),
-        Request::Link { old_path, new_path } => two_paths(old_path, new_path),
-        Request::Rename {
-            old_path,
-            new_path,
-            ..
-        } => two_paths(old_path, new_path),
-        Request::Chmod { path, .. } => only_path(path),
-        Request::Chown { path, .. } => only_path(path),
-        Request::Truncate { path, .. } => only_path(path),
-        Request::Fsync { path, .. } => only_path(path),
-        Request::Open { path, .. } => only_path(path),
-        Request::Mknod { path, .. } => only_path(path),
-        Request::Create { path, .. } => only_path(path),
-        Request::Release { path, .. } => only_path(path),
-        Request::Unlink { path } => only_path(path),
-        Request::Read { path, .. } => only_path(path),
-        Request::Write { path, data, .. } => path_and_data(path, data),
-        Request::Mkdir { path, .. } => only_path(path),
-        Request::Readdir { path } => only_path(path),
-        Request::Rmdir { path } => only_path(path),
-        Request::Statfs { path } => only_path(path),
-        Request::Utimens { path, .. } => only_path(path),
-        Request::Getcreds => no_runs(),
-    }
-}
-
-fn runs_of(answer: RequestAnswer) -> Runs
-    ensures { parts_of result ≡ parts_named (answer_of answer) }
+// The request that was read; none where the message was refused, or has a type that is no method's.
+fn request_of(answer: RequestAnswer) -> Option<Request>
+    ensures { (n : _) → part_in n result ≡ part_named request_side n (answer_of answer) }
 {
     match answer {
-        RequestAnswer::Known { request, .. } => runs_of_request(request),
-        RequestAnswer::Unknown { .. } => no_runs(),
-        RequestAnswer::Refused { .. } => no_runs(),
+        RequestAnswer::Known { request, .. } => Some(request),
+        _ => None,
     }
 }
 
@@ -141,46 +26,82 @@ fn runs_of(answer: RequestAnswer) -> Runs
 pub fn path<'a>(m: &'a [u8], answer: RequestAnswer) -> &'a [u8]
     ensures { Shows m.entry (part_named request_side "path" (answer_of answer)) result }
 {
-    let runs = runs_of(answer);
-    wire::bytes_of(m, runs.path)
+    match request_of(answer) {
+        Some(
+            Request::Access { path, .. }
+            | Request::Getattr { path }
+            | Request::Readlink { path }
+            | Request::Chmod { path, .. }
+            | Request::Chown { path, .. }
+            | Request::Truncate { path, .. }
+            | Request::Fsync { path, .. }
+            | Request::Open { path, .. }
+            | Request::Mknod { path, .. }
+            | Request::Create { path, .. }
+            | Request::Release { path, .. }
+            | Request::Unlink { path }
+            | Request::Read { path, .. }
+            | Request::Write { path, .. }
+            | Request::Mkdir { path, .. }
+            | Request::Readdir { path }
+            | Request::Rmdir { path }
+            | Request::Statfs { path }
+            | Request::Utimens { path, .. },
+        ) => wire::bytes_of(m, path),
+        _ => wire::bytes_of(m, Run::EMPTY),
+    }
 }
 
 // The bytes of the target of a symlink request.
 pub fn target<'a>(m: &'a [u8], answer: RequestAnswer) -> &'a [u8]
     ensures { Shows m.entry (part_named request_side "target" (answer_of answer)) result }
 {
-    let runs = runs_of(answer);
-    wire::bytes_of(m, runs.target)
+    match request_of(answer) {
+        Some(Request::Symlink { target, .. }) => wire::bytes_of(m, target),
+        _ => wire::bytes_of(m, Run::EMPTY),
+    }
 }
 
 // The bytes of the linkpath of a symlink request.
 pub fn linkpath<'a>(m: &'a [u8], answer: RequestAnswer) -> &'a [u8]
     ensures { Shows m.entry (part_named request_side "linkpath" (answer_of answer)) result }
 {
-    let runs = runs_of(answer);
-    wire::bytes_of(m, runs.linkpath)
+    match request_of(answer) {
+        Some(Request::Symlink { linkpath, .. }) => wire::bytes_of(m, linkpath),
+        _ => wire::bytes_of(m, Run::EMPTY),
+    }
 }
 
 // The bytes of the old_path of a link or rename request.
 pub fn old_path<'a>(m: &'a [u8], answer: RequestAnswer) -> &'a [u8]
     ensures { Shows m.entry (part_named request_side "old_path" (answer_of answer)) result }
 {
-    let runs = runs_of(answer);
-    wire::bytes_of(m, runs.old_path)
+    match request_of(answer) {
+        Some(Request::Link { old_path, .. } | Request::Rename { old_path, .. }) => wire::bytes_of(
+            m, old_path,
+        ),
+        _ => wire::bytes_of(m, Run::EMPTY),
+    }
 }
 
 // The bytes of the new_path of a link or rename request.
 pub fn new_path<'a>(m: &'a [u8], answer: RequestAnswer) -> &'a [u8]
     ensures { Shows m.entry (part_named request_side "new_path" (answer_of answer)) result }
 {
-    let runs = runs_of(answer);
-    wire::bytes_of(m, runs.new_path)
+    match request_of(answer) {
+        Some(Request::Link { new_path, .. } | Request::Rename { new_path, .. }) => wire::bytes_of(
+            m, new_path,
+        ),
+        _ => wire::bytes_of(m, Run::EMPTY),
+    }
 }
 
 // The bytes of the data of a write request.
 pub fn data<'a>(m: &'a [u8], answer: RequestAnswer) -> &'a [u8]
     ensures { Shows m.entry (part_named request_side "data" (answer_of answer)) result }
 {
-    let runs = runs_of(answer);
-    wire::bytes_of(m, runs.data)
+    match request_of(answer) {
+        Some(Request::Write { data, .. }) => wire::bytes_of(m, data),
+        _ => wire::bytes_of(m, Run::EMPTY),
+    }
 }

@@ -13,7 +13,7 @@ ghost use Rattle.message_writer.specs.Writers.{Writes};
 ghost use Rattle.request_writer.specs.Asking.{asking, RunStarted, RunsStarted};
 
 use message_writer::Written;
-use method::{Lookup, Method};
+use method::Method;
 use wire::{Cursor, Header, Refusal, Run, Timestamp};
 
 // What a request has besides its numbers and the bytes of its one run, or of its two: header and lengths.
@@ -314,13 +314,12 @@ pub fn write_getcreds(id: u32, out: &mut [u8]) -> Written
 pub fn write_unknown(id: u32, type_number: u8, out: &mut [u8]) -> Written
     ensures { Writes (write request unknown id type_number [] true) out.entry out.exit result }
 {
-    let found = Method::of_request(type_number);
-    match found {
-        Lookup::Found(_) => Written::Refused {
+    match Method::of_request(type_number) {
+        Some(_) => Written::Refused {
             number: Refusal::UNEXPECTED_TYPE,
             place: 0,
         },
-        Lookup::Unknown => {
+        None => {
             let header = field_writer::put_header(out, Cursor::START, id, type_number);
             message_writer::finish(header)
         }

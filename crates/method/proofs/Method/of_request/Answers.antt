@@ -1,101 +1,17 @@
--- `method::Method::of_request` meets its contract: each arm is the table's, and the rest has no method. Assumes nothing.
-use mathlib.Core.Path.{sym}
-use Rattle.method.specs.Methods.{of_request}
-use Rattle.method.proofs.Table.{request-unknown}
+-- `method::Method::of_request` meets its contract: 0 is no method's, and another number is looked up at its place. Assumes nothing.
+use mathlib.Core.Path.{◌≡◌, sym, ap, ◌∙◌}
+use native.Mathlib.Omega.{arith}
+use Rattle.method.specs.Methods.{found_method, of_request}
+use Rattle.method.proofs.Table.{request-at, request-zero}
 use Rattle.method.proofs.Method.of_request.Goals as goal
 
-pub returns-in-1 : goal.returns-in-1
-unfolding of_request
-returns-in-1 c = rw c.in-1.is
+pub returns-in_err-place : goal.returns-in_err-place
+returns-in_err-place c =
+    let no = c.in_err-place.ensures in
+    let zero : c.args.number ≡ 0 = omega arith in
+    ap found_method c.from_residual.ensures ∙ sym (ap of_request zero ∙ request-zero)
 
-pub returns-in-2 : goal.returns-in-2
-unfolding of_request
-returns-in-2 c = rw c.in-2.is
-
-pub returns-in-3 : goal.returns-in-3
-unfolding of_request
-returns-in-3 c = rw c.in-3.is
-
-pub returns-in-4 : goal.returns-in-4
-unfolding of_request
-returns-in-4 c = rw c.in-4.is
-
-pub returns-in-5 : goal.returns-in-5
-unfolding of_request
-returns-in-5 c = rw c.in-5.is
-
-pub returns-in-6 : goal.returns-in-6
-unfolding of_request
-returns-in-6 c = rw c.in-6.is
-
-pub returns-in-7 : goal.returns-in-7
-unfolding of_request
-returns-in-7 c = rw c.in-7.is
-
-pub returns-in-8 : goal.returns-in-8
-unfolding of_request
-returns-in-8 c = rw c.in-8.is
-
-pub returns-in-9 : goal.returns-in-9
-unfolding of_request
-returns-in-9 c = rw c.in-9.is
-
-pub returns-in-10 : goal.returns-in-10
-unfolding of_request
-returns-in-10 c = rw c.in-10.is
-
-pub returns-in-11 : goal.returns-in-11
-unfolding of_request
-returns-in-11 c = rw c.in-11.is
-
-pub returns-in-12 : goal.returns-in-12
-unfolding of_request
-returns-in-12 c = rw c.in-12.is
-
-pub returns-in-13 : goal.returns-in-13
-unfolding of_request
-returns-in-13 c = rw c.in-13.is
-
-pub returns-in-14 : goal.returns-in-14
-unfolding of_request
-returns-in-14 c = rw c.in-14.is
-
-pub returns-in-15 : goal.returns-in-15
-unfolding of_request
-returns-in-15 c = rw c.in-15.is
-
-pub returns-in-16 : goal.returns-in-16
-unfolding of_request
-returns-in-16 c = rw c.in-16.is
-
-pub returns-in-17 : goal.returns-in-17
-unfolding of_request
-returns-in-17 c = rw c.in-17.is
-
-pub returns-in-18 : goal.returns-in-18
-unfolding of_request
-returns-in-18 c = rw c.in-18.is
-
-pub returns-in-19 : goal.returns-in-19
-unfolding of_request
-returns-in-19 c = rw c.in-19.is
-
-pub returns-in-20 : goal.returns-in-20
-unfolding of_request
-returns-in-20 c = rw c.in-20.is
-
-pub returns-in-21 : goal.returns-in-21
-unfolding of_request
-returns-in-21 c = rw c.in-21.is
-
-pub returns-in-22 : goal.returns-in-22
-unfolding of_request
-returns-in-22 c = rw c.in-22.is
-
-pub returns-in-23 : goal.returns-in-23
-unfolding of_request
-returns-in-23 c = rw c.in-23.is
-
-pub returns-in_default : goal.returns-in_default
-unfolding of_request
-returns-in_default c = sym (request-unknown c.args.number c.in_default.in_default-own.rest)
+pub returns : goal.returns
+returns c =
+    let a = c.in_ok-place.ensures in
+    ap found_method c.copied.ensures ∙ request-at c.args.number c.in_ok-place.place c.get.result a.0 a.1 c.get.ensures.lookup
