@@ -1,4 +1,4 @@
-// For a host: the table of outstanding requests, in words that the host lends. `outstanding_words` says what a word is.
+// For a host: the table of outstanding requests, in words that the host lends. `outstanding_records` says what a word is.
 #![tactic(auto)]
 
 ghost use Rattle.std.specs.Prelude.{◌≡◌, List, ℕ, set};

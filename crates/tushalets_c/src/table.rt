@@ -1,4 +1,4 @@
-// For a host: the table of outstanding requests, in words that the host lends. `outstanding_words` says what a word is.
+// For a host: the table of outstanding requests, in words that the host lends. `outstanding_records` says what a word is.
 ghost use Rattle.std.specs.Prelude.{◌≡◌};
 ghost use Rattle.outstanding.specs.Calls.{empty as empty_in, enter as enter_in, look as look_at};
 ghost use Rattle.outstanding_records.specs.Words.{records as records_of};
