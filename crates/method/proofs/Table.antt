@@ -17,6 +17,8 @@ use Rattle.std.specs.Slice.{IsItemAt}
 use Rattle.std.proofs.lemmas.Option.{slice_get_past, slice_get_read}
 use Rattle.method.specs.declared.Method.{Method}
 use Rattle.method.specs.declared.Method.TheVariants.{Access, Getattr, Readlink, Symlink, Link, Rename, Chmod, Chown, Truncate, Fsync, Open, Mknod, Create, Release, Unlink, Read, Write, Mkdir, Readdir, Rmdir, Statfs, Utimens, Getcreds}
+use Rattle.method.specs.declared.TheConstants.Method.{ACCESS, GETATTR, READLINK, SYMLINK, LINK, RENAME, CHMOD, CHOWN, TRUNCATE, FSYNC, OPEN, MKNOD, CREATE, RELEASE, UNLINK, READ, WRITE, MKDIR, READDIR, RMDIR, STATFS, UTIMENS, GETCREDS}
+use Rattle.method.specs.declared.TheConstants.Method.{ACCESS_REPLY, GETATTR_REPLY, READLINK_REPLY, SYMLINK_REPLY, LINK_REPLY, RENAME_REPLY, CHMOD_REPLY, CHOWN_REPLY, TRUNCATE_REPLY, FSYNC_REPLY, OPEN_REPLY, MKNOD_REPLY, CREATE_REPLY, RELEASE_REPLY, UNLINK_REPLY, READ_REPLY, WRITE_REPLY, MKDIR_REPLY, READDIR_REPLY, RMDIR_REPLY, STATFS_REPLY, UTIMENS_REPLY, GETCREDS_REPLY}
 use Rattle.method.specs.Methods.{methods, request_number, reply_offset, reply_number, Found, found, unknown, lookup, of_request, of_reply, found_method}
 
 -- ---- numbers 1 to 23, each once
@@ -28,6 +30,13 @@ upwards a (suc n) = a ∷ upwards (suc a) n
 
 pub numbers : map request_number methods ≡ upwards 1 23
 numbers = refl
+
+-- the constants that code matches on are these numbers, in the same order
+pub request-constants : ACCESS ∷ GETATTR ∷ READLINK ∷ SYMLINK ∷ LINK ∷ RENAME ∷ CHMOD ∷ CHOWN ∷ TRUNCATE ∷ FSYNC ∷ OPEN ∷ MKNOD ∷ CREATE ∷ RELEASE ∷ UNLINK ∷ READ ∷ WRITE ∷ MKDIR ∷ READDIR ∷ RMDIR ∷ STATFS ∷ UTIMENS ∷ GETCREDS ∷ [] ≡ map request_number methods
+request-constants = refl
+
+pub reply-constants : ACCESS_REPLY ∷ GETATTR_REPLY ∷ READLINK_REPLY ∷ SYMLINK_REPLY ∷ LINK_REPLY ∷ RENAME_REPLY ∷ CHMOD_REPLY ∷ CHOWN_REPLY ∷ TRUNCATE_REPLY ∷ FSYNC_REPLY ∷ OPEN_REPLY ∷ MKNOD_REPLY ∷ CREATE_REPLY ∷ RELEASE_REPLY ∷ UNLINK_REPLY ∷ READ_REPLY ∷ WRITE_REPLY ∷ MKDIR_REPLY ∷ READDIR_REPLY ∷ RMDIR_REPLY ∷ STATFS_REPLY ∷ UTIMENS_REPLY ∷ GETCREDS_REPLY ∷ [] ≡ map reply_number methods
+reply-constants = refl
 
 -- ---- from and to the number are inverse
 

@@ -56,15 +56,15 @@ pub fn find_free(words: &[u64]) -> Option<usize>
         .position(|r| is_free(r))
 }
 
-// How many requests are outstanding.
+// How many requests are outstanding. The loop adds 0 or 1 for each word, so that it is compiled to vector instructions.
 pub fn count(words: &[u64]) -> usize
     ensures { result ≡ length (ids (records_of words.now)) }
 {
-    words
-        .iter()
-        .map(|w| Record::from(*w))
-        .filter(|r| !is_free(*r))
-        .count()
+    let mut n = 0;
+    for word in words {
+        n += usize::from(!is_free(Record::from(*word)));
+    }
+    n
 }
 
 // Whether there are 64 records, every held type is a request's, and no id is held twice.
